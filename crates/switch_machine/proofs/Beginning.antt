@@ -1,5 +1,5 @@
 -- an operation with its changes in order may start, and what is left by its last user may be retired
-use Rattle.std.proofs.Common.{◌≡◌, ◌⊎◌, ◌∷◌, ◌∙◌, inl, inr, ℕ, List, [], Option, None, Some, refl, sym, ap, ap₂, subst}
+use Rattle.std.proofs.Common.{◌≡◌, ◌⊎◌, ◌∷◌, ◌∙◌, inl, inr, ℕ, Bool, List, [], Option, None, Some, refl, sym, ap, ap₂, subst}
 use Rattle.table_schema.specs.Plan.{Ports, IsPlan}
 use Rattle.table_schema.specs.declared.key.Key.{Key}
 use Rattle.table_schema.specs.declared.row.Row.{Row}
@@ -10,7 +10,7 @@ use Rattle.row_layout.specs.Rows.{Owner, OfRow, own_things}
 use Rattle.row_layout.specs.Shared.{shared_things, uses}
 use Rattle.row_layout.specs.Operations.{Change, Make, Set, Take, make_all, own_changes, own_sets, shared_going, take_all, uses_of}
 use Rattle.switch_machine.specs.Changes.{after, changed_name}
-use Rattle.switch_machine.specs.Flights.{Can, Concerns, Fits, MachineFlight, Goes, IsConcern, IsFinal, IsOwnedBy, IsShared, HasChangeOf, IsUser, Machine, Runs, StandsIn, own_of}
+use Rattle.switch_machine.specs.Flights.{Can, Concerns, Fits, MachineFlight, Goes, IsConcern, IsFinal, IsOwnedBy, IsShared, HasChangeOf, IsUser, Machine, Runs, StandsIn, goes_over, own_of}
 use Rattle.switch_machine.specs.Operations.{MayBegin, IsLast, built_first}
 use Rattle.switch_machine.specs.Tables.{Orders, IsNamed, TableLaws}
 use Rattle.switch_machine.specs.Steps.{LeavesLast, Starts, left, parted, started}
@@ -95,20 +95,20 @@ module _ (plan : Ports) (is : IsPlan plan) (m : Machine) (sound : IsConsistent p
     own_runs : (old new : Option Row) → m.board.applied f.key ≡ old → f.new ≡ new → (V : Thing → Type 0) → IsReady (own_of plan f.key old) V → Runs plan f V (own_changes plan f.key old new)
     own_runs None None e g V ready = finish plan T f begins.fit O begins.none V (subst (λ z. IsReady (own_of plan f.key z) V) (sym g) ready)
     own_runs None (Some r) e g V ready = added plan T f begins.fit O begins.none r g V ready
-    own_runs (Some a) None e g V ready = removed plan T f begins.fit O begins.none a (sound.board.fit f.key a (inl e)) g V ready
-    own_runs (Some a) (Some r) e g V ready = with_row r g begins.fit ready (changed-runs plan is f.key a r f.leaves (sound.board.fit f.key a (inl e)) (begins.fit r g) V)
+    own_runs (Some a) None e g V ready = removed plan T f begins.fit O begins.none a (sound.board.fit f.key a (inl e)) (begins.goes ∙ ap (goes_over f.key (m.board.applied f.key)) g) g V ready
+    own_runs (Some a) (Some r) e g V ready = with_row r g begins.fit (begins.goes ∙ ap₂ (goes_over f.key) e g) ready (changed-runs plan is f.key a r f.leaves (sound.board.fit f.key a (inl e)) (begins.fit r g) V)
       where
         -- the flight as it is written out
-        with_row : (r : Row) (g : f.new ≡ Some r) (fit : (x : Row) → f.new ≡ Some x → Fits plan f.key x) → Ready plan T f fit (own_things plan f.key a) V → (Ready plan T (changes f.key r f.leaves) (λ x h. one_row plan f.key r x (fit r g) h) (own_things plan f.key a) V → Runs plan (changes f.key r f.leaves) V (own_sets plan f.key a r)) → Runs plan f V (own_sets plan f.key a r)
-        with_row r g fit ready runs =
-            let same : changes f.key r f.leaves ≡ f = written f (Some r) None g begins.none in
+        with_row : (r : Row) (g : f.new ≡ Some r) (fit : (x : Row) → f.new ≡ Some x → Fits plan f.key x) → f.goes ≡ goes_over f.key (Some a) (Some r) → Ready plan T f fit (own_things plan f.key a) V → (Ready plan T (changes f.key r f.leaves (goes_over f.key (Some a) (Some r))) (λ x h. one_row plan f.key r x (fit r g) h) (own_things plan f.key a) V → Runs plan (changes f.key r f.leaves (goes_over f.key (Some a) (Some r))) V (own_sets plan f.key a r)) → Runs plan f V (own_sets plan f.key a r)
+        with_row r g fit goes ready runs =
+            let same : changes f.key r f.leaves (goes_over f.key (Some a) (Some r)) ≡ f = written f (Some r) None (goes_over f.key (Some a) (Some r)) g begins.none goes in
             subst (λ z. Runs plan z V (own_sets plan f.key a r)) same (runs (record {
               own = ready.own;
               shared = λ o u usage of. ready.shared o u (subst (λ z. IsIn o (uses_of plan f.key z)) (sym g) usage) of;
             }))
           where
-            written : (f : MachineFlight) (n : Option Row) (x : Option Owner) → f.new ≡ n → f.retires ≡ x → record { key = f.key; new = n; leaves = f.leaves; retires = x } ≡ f
-            written f n x h k = let made : Option Row → Option Owner → MachineFlight = λ n x. record { key = f.key; new = n; leaves = f.leaves; retires = x } in ap₂ made (sym h) (sym k)
+            written : (f : MachineFlight) (n : Option Row) (x : Option Owner) (b : Bool) → f.new ≡ n → f.retires ≡ x → f.goes ≡ b → record { key = f.key; new = n; leaves = f.leaves; retires = x; goes = b } ≡ f
+            written f n x b h k i = let made : Option Row → Option Owner → Bool → MachineFlight = λ n x b. record { key = f.key; new = n; leaves = f.leaves; retires = x; goes = b } in ap₂ (λ n x. made n x b) (sym h) (sym k) ∙ ap (made f.new f.retires) (sym i)
 
     own_view : (u : Thing) → IsOwnedBy plan (name_of u) (OfRow f.key) → (StandsIn m u → IsIn u (own_of plan f.key (m.board.applied f.key))) × (IsIn u (own_of plan f.key (m.board.applied f.key)) → StandsIn m u)
     own_view u of = sound.rest f.key u begins.rests of
@@ -162,6 +162,7 @@ module _ (plan : Ports) (is : IsPlan plan) (m : Machine) (sound : IsConsistent p
       rests = begins.rests;
       fit = begins.fit;
       named = begins.named;
+      goes = begins.goes;
       unnamed = begins.unnamed;
       free = begins.free;
       none = begins.none;

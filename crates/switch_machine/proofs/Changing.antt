@@ -1,5 +1,5 @@
 -- the values of a row that changes can be set one after the other
-use Rattle.std.proofs.Common.{◌≡◌, ◌⊎◌, ◌∷◌, ◌∙◌, inl, inr, ℕ, Bool, List, [], Option, None, Some, option_map, refl, sym, ap, ap₂, subst}
+use Rattle.std.proofs.Common.{◌≡◌, ◌⊎◌, ◌∷◌, ◌∙◌, inl, inr, ℕ, Bool, false, List, [], Option, None, Some, option_map, refl, sym, ap, ap₂, subst}
 use Rattle.table_schema.specs.Plan.{Ports, IsPlan}
 use Rattle.table_schema.specs.declared.key.Key.{Key}
 use Rattle.table_schema.specs.declared.key.Key.TheVariants as key
@@ -17,7 +17,7 @@ use Rattle.row_layout.specs.Rows.{Owner, OfRow, from, own_things}
 use Rattle.row_layout.specs.Operations.{Change, own_sets, thing_of_port, set_all, set_to}
 use Rattle.row_layout.proofs.Changing.{set_same}
 use Rattle.switch_machine.specs.Changes.{IsSettable}
-use Rattle.switch_machine.specs.Flights.{Fits, MachineFlight, HasName, IsOwnedBy, Runs}
+use Rattle.switch_machine.specs.Flights.{Fits, MachineFlight, HasName, IsOwnedBy, Runs, goes_over}
 use Rattle.switch_machine.specs.Tables.{AreNamedApart, ComesBefore}
 use Rattle.switch_machine.proofs.Running.{resembles_self}
 use Rattle.switch_machine.proofs.Operating.{Ready, finish, near_own, not_first, step}
@@ -27,15 +27,15 @@ use Rattle.switch_machine.proofs.Tabled.{tabled}
 port_refers_none : {X : Type 0} (p : PortThing) (n : ThingName) → Refers (thing.Port p) n → X
 port_refers_none p n h = elim h [ ]
 
-abbrev pub changes : Key → Row → Option Owner → MachineFlight
-changes k r leaves = record { key = k; new = Some r; leaves = leaves; retires = None }
+abbrev pub changes : Key → Row → Option Owner → Bool → MachineFlight
+changes k r leaves goes = record { key = k; new = Some r; leaves = leaves; retires = None; goes = goes }
 
 pub one_row : (plan : Ports) (k : Key) (r x : Row) → Fits plan k r → Some r ≡ Some x → Fits plan k x
 one_row plan k r x fit h = let same : r ≡ x = cc in subst (Fits plan k) same fit
 
 module _ (plan : Ports) (is : IsPlan plan) (k : Key) (a r : Row) (leaves : Option Owner) (fit : Fits plan k r) where
   abbrev f : MachineFlight
-  f = changes k r leaves
+  f = changes k r leaves false
 
   abbrev fits : (x : Row) → f.new ≡ Some x → Fits plan k x
   fits = λ x h. one_row plan k r x fit h
@@ -63,12 +63,12 @@ module _ (plan : Ports) (is : IsPlan plan) (k : Key) (a r : Row) (leaves : Optio
       near W n (inr h) = absurd (not_first n u ts apart (subst (ComesBefore n u) er h))
 
 -- nothing is set of an equal row
-none_set : (plan : Ports) (is : IsPlan plan) (k : Key) (r : Row) (leaves : Option Owner) (fit : Fits plan k r) (V : Thing → Type 0) → Ready plan (tabled plan is) (changes k r leaves) (λ x h. one_row plan k r x fit h) (own_things plan k r) V → Runs plan (changes k r leaves) V (set_all (own_things plan k r) (own_things plan k r))
-none_set plan is k r leaves fit V ready = subst (Runs plan (changes k r leaves) V) (sym (set_same (own_things plan k r))) (finish plan (tabled plan is) (changes k r leaves) (λ x h. one_row plan k r x fit h) (ordered plan is) refl V ready)
+none_set : (plan : Ports) (is : IsPlan plan) (k : Key) (r : Row) (leaves : Option Owner) (fit : Fits plan k r) (V : Thing → Type 0) → Ready plan (tabled plan is) (changes k r leaves false) (λ x h. one_row plan k r x fit h) (own_things plan k r) V → Runs plan (changes k r leaves false) V (set_all (own_things plan k r) (own_things plan k r))
+none_set plan is k r leaves fit V ready = subst (Runs plan (changes k r leaves false) V) (sym (set_same (own_things plan k r))) (finish plan (tabled plan is) (changes k r leaves false) (λ x h. one_row plan k r x fit h) (ordered plan is) refl V ready)
 
 module _ (plan : Ports) (is : IsPlan plan) (p : ℕ) (a r : PortRow) (leaves : Option Owner) (fita : Fits plan (key.Port p) (row.Port a)) (fit : Fits plan (key.Port p) (row.Port r)) where
   abbrev port_f : MachineFlight
-  port_f = changes (key.Port p) (row.Port r) leaves
+  port_f = changes (key.Port p) (row.Port r) leaves false
 
   abbrev port_fits : (x : Row) → port_f.new ≡ Some x → Fits plan (key.Port p) x
   port_fits = λ x h. one_row plan (key.Port p) (row.Port r) x fit h
@@ -108,7 +108,7 @@ module _ (plan : Ports) (is : IsPlan plan) (p : ℕ) (a r : PortRow) (leaves : O
       port_step r.speed r.mtu r.speed r.mtu a.up r.up [] W' now' (inr (inr (r.up, refl))) (λ W'' done.
       finish plan (tabled plan is) port_f port_fits (ordered plan is) refl W'' (subst (λ z. PortIsReady z W'') (sym last_own) done))))
 
-pub changed-runs : (plan : Ports) (is : IsPlan plan) (k : Key) (a r : Row) (leaves : Option Owner) (fita : Fits plan k a) (fit : Fits plan k r) (V : Thing → Type 0) → Ready plan (tabled plan is) (changes k r leaves) (λ x h. one_row plan k r x fit h) (own_things plan k a) V → Runs plan (changes k r leaves) V (own_sets plan k a r)
+pub changed-runs : (plan : Ports) (is : IsPlan plan) (k : Key) (a r : Row) (leaves : Option Owner) (fita : Fits plan k a) (fit : Fits plan k r) (V : Thing → Type 0) → Ready plan (tabled plan is) (changes k r leaves (goes_over k (Some a) (Some r))) (λ x h. one_row plan k r x fit h) (own_things plan k a) V → Runs plan (changes k r leaves (goes_over k (Some a) (Some r))) V (own_sets plan k a r)
 changed-runs plan is (key.Port p) (row.Port a) (row.Port r) leaves fita fit V ready = port_runs plan is p a r leaves fita fit V ready
 changed-runs plan is (key.Member v p) (row.Member a) (row.Member r) leaves (lane, lane_at) fit V ready =
     set_first plan is (key.Member v p) (row.Member a) (row.Member r) leaves fit (thing.VlanMember v lane a) (thing.VlanMember v lane r) [] (ap (λ o. from o (λ l. thing.VlanMember v l a ∷ [])) lane_at) (ap (λ o. from o (λ l. thing.VlanMember v l r ∷ [])) lane_at) (r, refl) V ready

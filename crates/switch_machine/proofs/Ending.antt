@@ -1,5 +1,5 @@
 -- the machine stays sound where an operation ends
-use Rattle.std.proofs.Common.{◌≡◌, ◌∙◌, inl, inr, ℕ, [], Option, None, Some, refl, sym, ap, subst}
+use Rattle.std.proofs.Common.{◌≡◌, ◌∙◌, inl, inr, ℕ, true, [], Option, None, Some, refl, sym, ap, subst}
 use Rattle.std.proofs.lemmas.Option.{same_Some}
 use Rattle.table_schema.specs.Plan.{Ports}
 use Rattle.table_schema.specs.declared.key.Key.{Key}
@@ -8,7 +8,7 @@ use Rattle.sai_types.specs.declared.thing.Thing.{Thing}
 use Rattle.sai_types.specs.Alike.{IsIn}
 use Rattle.sai_types.specs.Names.{ThingName, name_of}
 use Rattle.row_layout.specs.Rows.{Owner, OfRow, own_things}
-use Rattle.switch_machine.specs.Flights.{MachineBoard, CountsAsUser, Fits, MachineFlight, HasName, IsFinal, IsFirm, IsOwnedBy, IsResting, IsRow, IsShared, HasChangeOf, IsUser, Machine, Runs, StandsIn, own_names, own_of}
+use Rattle.switch_machine.specs.Flights.{MachineBoard, CountsAsUser, Fits, MachineFlight, HasName, IsFinal, IsFirm, IsOwnedBy, IsResting, IsRow, IsShared, HasChangeOf, IsUser, Machine, Runs, StandsIn, goes_over, own_names, own_of}
 use Rattle.row_layout.specs.Operations.{uses_of}
 use Rattle.switch_machine.specs.Steps.{Ends, finished}
 use Rattle.switch_model.specs.Good.{TypedRows}
@@ -105,14 +105,14 @@ module _ (plan : Ports) (tables : TableLaws plan) (m : Machine) (sound : IsConsi
     where
       of : IsSplit f.key p → IsFirm b' p
       of (inl same) =
-          let r = some_new f.new (firm.stays w f ends.flying same) in
+          let r = some_new f.new (λ none. firm.stays w f ends.flying same (sound.board.goes w f ends.flying ∙ ap (goes_over f.key (b.applied f.key)) none)) in
           record { row = r.0; applied = applied_new p same ∙ r.1; stays = λ v g at is none. firm.stays v g (there_by v g at) is none }
       of (inr other) = record { row = firm.row; applied = applied_old p other ∙ firm.applied; stays = λ v g at is none. firm.stays v g (there_by v g at) is none }
 
   firm_was : (p : Key) → (f.key ≡ p → ⊥) → IsFirm b' p → IsFirm b p
   firm_was p other firm = record { row = firm.row; applied = sym (applied_old p other) ∙ firm.applied; stays = λ v g at is none. of v g is none (goes v g at) }
     where
-      of : (v : ℕ) (g : MachineFlight) → g.key ≡ p → g.new ≡ None → Goes v g → ⊥
+      of : (v : ℕ) (g : MachineFlight) → g.key ≡ p → g.goes ≡ true → Goes v g → ⊥
       of v g is none (Ended same e) = other (ap (λ (z : MachineFlight). z.key) e ∙ is)
       of v g is none (Stays apart there) = firm.stays v g there is none
 
@@ -163,6 +163,7 @@ module _ (plan : Ports) (tables : TableLaws plan) (m : Machine) (sound : IsConsi
     one = one_by;
     fit = λ k r row. sound.board.fit k r (row_was k r row);
     named = λ k p r row h. firm_now p (sound.board.named k p r (row_was k r row) h);
+    goes = λ v g at. sound.board.goes v g (there_by v g at) ∙ ap (λ z. goes_over g.key z g.new) (sym (applied_old g.key (other_key v g at)));
     leaves = λ v g o at h. let x = sound.board.leaves v g o (there_by v g at) h in (was_used v g o at x.0, x.1, x.2);
     left = λ v g o at h. was_used v g o at (sound.board.left v g o (there_by v g at) h);
     unused = λ v g k o at h user. sound.board.unused v g k o (there_by v g at) h (user_was k o user);

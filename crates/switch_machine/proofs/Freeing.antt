@@ -23,7 +23,7 @@ use Rattle.row_layout.specs.Rows.{Owner}
 use Rattle.row_layout.specs.Shared.{shared_things}
 use Rattle.switch_machine.specs.Consistent.{IsUsedOrRetired}
 use Rattle.switch_machine.specs.Events.{IsSafe, SwitchState}
-use Rattle.switch_machine.specs.Flights.{Fits, MachineFlight, HasChangeOf, IsFirm, IsRow, IsShared, IsUser, StandsIn}
+use Rattle.switch_machine.specs.Flights.{Fits, MachineFlight, HasChangeOf, IsFirm, IsRow, IsShared, IsUser, StandsIn, goes_over}
 use Rattle.switch_machine.specs.Operations.{MayBegin, built_first}
 use Rattle.switch_machine.specs.Places.{HasRoomFor, makes, places_kept}
 use Rattle.switch_machine.specs.Reasons.{IsInTheWay, IsRowPrepared, LacksRoom}
@@ -138,8 +138,8 @@ module _ (plan : Ports) (is : IsPlan plan) (workers : ℕ) (capacities : List �
   free_by : (o : Owner) (n : Option Row) → new ≡ n → IsIn o (uses_of plan k n) → (v : ℕ) (g : MachineFlight) → s.machine.board.flights v ≡ Some g → (HasChangeOf plan (s.machine.due v) o → ⊥) × (g.retires ≡ Some o → ⊥)
   free_by o None e h v g at = elim h [ ]
   free_by o (Some r) e h v g at = (
-    λ touched. clear v (subst (λ z. IsInTheWay plan s.machine k z v) (sym e) (g, at, inr (o, h, inl touched))),
-    λ retires. clear v (subst (λ z. IsInTheWay plan s.machine k z v) (sym e) (g, at, inr (o, h, inr retires))),
+    λ touched. clear v (g, at, inr (r, e, inr (o, h, inl touched))),
+    λ retires. clear v (g, at, inr (r, e, inr (o, h, inr retires))),
   )
 
   free : (o : Owner) → IsIn o now → (v : ℕ) (g : MachineFlight) → s.machine.board.flights v ≡ Some g → (HasChangeOf plan (s.machine.due v) o → ⊥) × (g.retires ≡ Some o → ⊥)
@@ -191,7 +191,7 @@ module _ (plan : Ports) (is : IsPlan plan) (workers : ℕ) (capacities : List �
               some_not o h = cc
 
   abbrev pub flight : MachineFlight
-  flight = record { key = k; new = new; leaves = leaving.leaves; retires = None }
+  flight = record { key = k; new = new; leaves = leaving.leaves; retires = None; goes = goes_over k (s.machine.board.applied k) new }
 
   abbrev pub due : List Change
   due = built_first building.builds (own_changes plan k (s.machine.board.applied k) new)
@@ -200,12 +200,12 @@ module _ (plan : Ports) (is : IsPlan plan) (workers : ℕ) (capacities : List �
   firm p r e h = let x = all_have s.machine.board.applied (names_of k r) p (prepared.named r e) h in record {
     row = x.0;
     applied = x.1;
-    stays = λ v g at same none. clear v (subst (λ z. IsInTheWay plan s.machine k z v) (sym e) (g, at, inl (none, subst (λ z. IsIn z (names_of k r)) (sym same) h)));
+    stays = λ v g at same goes. clear v (g, at, inr (r, e, inl (goes, subst (λ z. IsIn z (names_of k r)) (sym same) h)));
   }
 
-  unnamed : new ≡ None → (q : Key) (r : Row) → IsRow s.machine.board q r → IsIn k (names_of q r) → ⊥
-  unnamed e q r (inl at) h = prepared.unheld e q r at h
-  unnamed e q r (inr (v, g, at, same, brings)) h = clear v (subst (λ z. IsInTheWay plan s.machine k z v) (sym e) (g, at, (r, brings, subst (λ z. IsIn k (names_of z r)) (sym same) h)))
+  unnamed : goes_over k (s.machine.board.applied k) new ≡ true → (q : Key) (r : Row) → IsRow s.machine.board q r → IsIn k (names_of q r) → ⊥
+  unnamed goes q r (inl at) h = prepared.unheld goes q r at h
+  unnamed goes q r (inr (v, g, at, same, brings)) h = clear v (g, at, inl (goes, (r, brings, subst (λ z. IsIn k (names_of z r)) (sym same) h)))
 
   pub may-begin : MayBegin plan s.machine w flight due
   may-begin = record {
@@ -213,6 +213,7 @@ module _ (plan : Ports) (is : IsPlan plan) (workers : ℕ) (capacities : List �
     rests = prepared.rests;
     fit = fits;
     named = firm;
+    goes = refl;
     unnamed = unnamed;
     free = free;
     none = refl;

@@ -14,7 +14,7 @@ use Rattle.row_layout.specs.Operations.{Change, own_changes, uses_of}
 use Rattle.row_layout.specs.Rows.{Owner}
 use Rattle.row_layout.proofs.Changing.{own_same}
 use Rattle.switch_machine.specs.Events.{IsBegin, IsDrop, IsSafe, SwitchState}
-use Rattle.switch_machine.specs.Flights.{MachineFlight, Machine}
+use Rattle.switch_machine.specs.Flights.{MachineFlight, Machine, goes_over}
 use Rattle.switch_machine.specs.Operations.{IsOperation, MayBegin, built_first}
 use Rattle.switch_machine.specs.Places.{makes}
 use Rattle.switch_machine.specs.Reasons.{IsInTheWay, IsReason, LacksRoom}
@@ -66,13 +66,13 @@ module _ (plan : Ports) (is : IsPlan plan) (workers : ℕ) (capacities : List �
         some_none firm.row (s.machine.board.applied n) firm.applied m.1
 
     pub not_held : (h : Key) → IsReason plan workers capacities s f.key (wait.Held h) → ⊥
-    not_held h (rests, none, (row, at, by)) = begins.unnamed (new ∙ none) h by.row (inl by.applied_row) by.names
+    not_held h (rests, none, (row, at, by)) = begins.unnamed (begins.goes ∙ ap (goes_over f.key (s.machine.board.applied f.key)) (new ∙ none)) h by.row (inl by.applied_row) by.names
 
     not_in_the_way : (o : Option Row) (v : ℕ) → f.new ≡ o → IsInTheWay plan s.machine f.key o v → ⊥
-    not_in_the_way None v e (g, at, (r, brings, h)) = begins.unnamed e g.key r (inr (v, g, at, refl, brings)) h
-    not_in_the_way (Some row) v e (g, at, inl (gone, h)) = (begins.named g.key row e h).stays v g at refl gone
-    not_in_the_way (Some row) v e (g, at, inr (o, h, inl touched)) = (begins.free o (subst (λ z. IsIn o (uses_of plan f.key z)) (sym e) h) v g at).0 touched
-    not_in_the_way (Some row) v e (g, at, inr (o, h, inr retires)) = (begins.free o (subst (λ z. IsIn o (uses_of plan f.key z)) (sym e) h) v g at).1 retires
+    not_in_the_way o v e (g, at, inl (goes, (r, brings, h))) = begins.unnamed (begins.goes ∙ ap (goes_over f.key (s.machine.board.applied f.key)) e ∙ goes) g.key r (inr (v, g, at, refl, brings)) h
+    not_in_the_way o v e (g, at, inr (row, is, inl (gone, h))) = (begins.named g.key row (e ∙ is) h).stays v g at refl gone
+    not_in_the_way o v e (g, at, inr (row, is, inr (p, h, inl touched))) = (begins.free p (subst (λ z. IsIn p (uses_of plan f.key z)) (sym (e ∙ is)) h) v g at).0 touched
+    not_in_the_way o v e (g, at, inr (row, is, inr (p, h, inr retires))) = (begins.free p (subst (λ z. IsIn p (uses_of plan f.key z)) (sym (e ∙ is)) h) v g at).1 retires
 
     pub not-busy : (v : ℕ) → IsReason plan workers capacities s f.key (wait.Busy v) → ⊥
     not-busy v (inl (g, at, same)) = begins.rests v g at same

@@ -1,5 +1,5 @@
 -- the machine stays sound where a key leaves what it shared
-use Rattle.std.proofs.Common.{◌≡◌, ◌⊎◌, ◌∷◌, ◌∙◌, inl, inr, ℕ, List, [], Option, None, Some, refl, sym, ap, subst}
+use Rattle.std.proofs.Common.{◌≡◌, ◌⊎◌, ◌∷◌, ◌∙◌, inl, inr, ℕ, List, [], Option, None, Some, refl, sym, ap, subst, true}
 use Rattle.std.proofs.lemmas.Option.{none-some, same_Some}
 use Rattle.table_schema.specs.Plan.{Ports}
 use Rattle.table_schema.specs.declared.key.Key.{Key}
@@ -10,7 +10,7 @@ use Rattle.sai_types.specs.Names.{ThingName, Refers, name_of}
 use Rattle.row_layout.specs.Rows.{Owner, OfRow}
 use Rattle.row_layout.specs.Shared.{uses}
 use Rattle.row_layout.specs.Operations.{Change, uses_of}
-use Rattle.switch_machine.specs.Flights.{MachineBoard, CountsAsUser, Fits, MachineFlight, IsFirm, IsOwnedBy, IsResting, IsRow, IsShared, HasChangeOf, IsUser, Machine, Runs, StandsIn}
+use Rattle.switch_machine.specs.Flights.{MachineBoard, CountsAsUser, Fits, MachineFlight, IsFirm, IsOwnedBy, IsResting, IsRow, IsShared, HasChangeOf, IsUser, Machine, Runs, StandsIn, goes_over}
 use Rattle.switch_machine.specs.Steps.{Leaves, LeavesLast, LeavesOthers, left, parted}
 use Rattle.switch_model.specs.Good.{TypedRows}
 use Rattle.switch_machine.specs.Consistent.{IsCurrent, IsUsedOrRetired, IsOrderly, IsConsistent, WasUsed}
@@ -97,15 +97,15 @@ module _ (plan : Ports) (tables : TableLaws plan) (m : Machine) (sound : IsConsi
     firm_now : (p : Key) → IsFirm b p → IsFirm b' p
     firm_now p firm = record { row = firm.row; applied = firm.applied; stays = λ v g at is none. of v g is none (flies v g at) }
       where
-        of : (v : ℕ) (g : MachineFlight) → g.key ≡ p → g.new ≡ None → Flies v g → ⊥
-        of v g is none (Its same e) = firm.stays w f leaving.flying (ap (λ (z : MachineFlight). z.key) e ∙ is) (ap (λ (z : MachineFlight). z.new) e ∙ none)
+        of : (v : ℕ) (g : MachineFlight) → g.key ≡ p → g.goes ≡ true → Flies v g → ⊥
+        of v g is none (Its same e) = firm.stays w f leaving.flying (ap (λ (z : MachineFlight). z.key) e ∙ is) (ap (λ (z : MachineFlight). z.goes) e ∙ none)
         of v g is none (Another other there) = firm.stays v g there is none
 
     firm_was : (p : Key) → IsFirm b' p → IsFirm b p
     firm_was p firm = record { row = firm.row; applied = firm.applied; stays = λ v g at is none. of v g is none (flew v g at) }
       where
-        of : (v : ℕ) (g : MachineFlight) → g.key ≡ p → g.new ≡ None → Flew v g → ⊥
-        of v g is none (It same e) = firm.stays w g' here (ap (λ (z : MachineFlight). z.key) e ∙ is) (ap (λ (z : MachineFlight). z.new) e ∙ none)
+        of : (v : ℕ) (g : MachineFlight) → g.key ≡ p → g.goes ≡ true → Flew v g → ⊥
+        of v g is none (It same e) = firm.stays w g' here (ap (λ (z : MachineFlight). z.key) e ∙ is) (ap (λ (z : MachineFlight). z.goes) e ∙ none)
         of v g is none (Same other there) = firm.stays v g there is none
 
     rest_was : (k : Key) → IsResting b' k → IsResting b k
@@ -192,11 +192,16 @@ module _ (plan : Ports) (tables : TableLaws plan) (m : Machine) (sound : IsConsi
       once_by u v g h p x y (Another s there) (Its t e) = absurd (h_once u g p there s (ap (λ (z : MachineFlight). z.retires) e ∙ y) x)
       once_by u v g h p x y (Another s there) (Another t at) = sound.board.once u v g h p there at x y
 
+      goes_by : (v : ℕ) (g : MachineFlight) → Flies v g → g.goes ≡ goes_over g.key (b.applied g.key) g.new
+      goes_by v g (Its same e) = subst (λ (z : MachineFlight). z.goes ≡ goes_over z.key (b.applied z.key) z.new) e (sound.board.goes w f leaving.flying)
+      goes_by v g (Another other there) = sound.board.goes v g there
+
       orderly : IsOrderly plan b'
       orderly = record {
         one = λ u v g h at there same. one_by u v g h same (flies u g at) (flies v h there);
         fit = λ k r row. sound.board.fit k r (row_was k r row);
         named = λ k p r row h. firm_now p (sound.board.named k p r (row_was k r row) h);
+        goes = λ v g at. goes_by v g (flies v g at);
         leaves = λ v g p at h. leaves_by v g p h (flies v g at);
         left = λ v g p at h. left_by v g p h (flies v g at);
         unused = λ v g k p at h user. unused_by v g k p h user (flies v g at);

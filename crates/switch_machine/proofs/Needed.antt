@@ -1,5 +1,5 @@
 -- what some conditions are for: where one is left out there is a state at which what holds between events would fall
-use Rattle.std.proofs.Common.{◌≡◌, ◌⊎◌, ◌+◌, ◌≤◌, ◌∷◌, ◌∙◌, inl, inr, ℕ, List, [], Option, None, Some, option_map, refl, ap, arith}
+use Rattle.std.proofs.Common.{◌≡◌, ◌⊎◌, ◌+◌, ◌≤◌, ◌∷◌, ◌∙◌, inl, inr, ℕ, true, List, [], Option, None, Some, option_map, refl, ap, arith}
 use Rattle.swss_types.specs.declared.address.Ip.{Ip}
 use Rattle.swss_types.specs.declared.address.Prefix.{Prefix}
 use Rattle.swss_types.specs.declared.address.Family.TheVariants.{V4}
@@ -30,13 +30,13 @@ use Rattle.row_layout.specs.Operations.{Change, Make}
 use Rattle.row_layout.specs.Rows as owner
 use Rattle.switch_machine.specs.Consistent.{IsConsistent, IsCurrent, IsOrderly}
 use Rattle.switch_machine.specs.Events.{empty_machine}
-use Rattle.switch_machine.specs.Flights.{MachineBoard, MachineFlight, Machine, StandsIn, put}
+use Rattle.switch_machine.specs.Flights.{MachineBoard, MachineFlight, Machine, StandsIn, goes_over, put}
 use Rattle.switch_machine.specs.Places.{makes, missing}
 use Rattle.switch_machine.specs.Written.{Written, fields_after, good_of}
 use Rattle.switch_machine.proofs.Splits.{IsPut, New, Old, put_by}
 
 abbrev flight_of : Key → Option Row → MachineFlight
-flight_of k new = record { key = k; new = new; leaves = None; retires = None }
+flight_of k new = record { key = k; new = new; leaves = None; retires = None; goes = goes_over k None new }
 
 -- ---- a row goes although a row that is to come names it: VLAN 5, and a member of it
 
@@ -56,14 +56,14 @@ shared_address (key.Addr (on.Vlan v) ip len) = Some row.Addr
 shared_address _ = None
 
 abbrev retiring_address : MachineBoard
-retiring_address = record { applied = shared_address; flights = put 0 (Some (record { key = key.Addr (on.Vlan 5) one_ip 24; new = None; leaves = None; retires = Some (owner.Own one_ip) })) (λ w. None) }
+retiring_address = record { applied = shared_address; flights = put 0 (Some (record { key = key.Addr (on.Vlan 5) one_ip 24; new = None; leaves = None; retires = Some (owner.Own one_ip); goes = true })) (λ w. None) }
 
-other_rests : (w : ℕ) (f : MachineFlight) → IsPut 0 w (Some (record { key = key.Addr (on.Vlan 5) one_ip 24; new = None; leaves = None; retires = Some (owner.Own one_ip) })) (λ v. None) (Some f) → f.key ≡ key.Addr (on.Vlan 6) one_ip 24 → ⊥
+other_rests : (w : ℕ) (f : MachineFlight) → IsPut 0 w (Some (record { key = key.Addr (on.Vlan 5) one_ip 24; new = None; leaves = None; retires = Some (owner.Own one_ip); goes = true })) (λ v. None) (Some f) → f.key ≡ key.Addr (on.Vlan 6) one_ip 24 → ⊥
 other_rests w f (New same e) is = absurd (let one : key.Addr (on.Vlan 5) one_ip 24 ≡ f.key = cc in let two = one ∙ is in cc)
 other_rests w f (Old other e) is = absurd cc
 
 used-address_stays : (plan : Ports) → IsOrderly plan retiring_address → ⊥
-used-address_stays plan x = x.unused 0 (record { key = key.Addr (on.Vlan 5) one_ip 24; new = None; leaves = None; retires = Some (owner.Own one_ip) }) (key.Addr (on.Vlan 6) one_ip 24) (owner.Own one_ip) refl refl (inr ((λ w f at is. other_rests w f (put_by 0 w (Some (record { key = key.Addr (on.Vlan 5) one_ip 24; new = None; leaves = None; retires = Some (owner.Own one_ip) })) (λ v. None) (Some f) at) is), inl refl))
+used-address_stays plan x = x.unused 0 (record { key = key.Addr (on.Vlan 5) one_ip 24; new = None; leaves = None; retires = Some (owner.Own one_ip); goes = true }) (key.Addr (on.Vlan 6) one_ip 24) (owner.Own one_ip) refl refl (inr ((λ w f at is. other_rests w f (put_by 0 w (Some (record { key = key.Addr (on.Vlan 5) one_ip 24; new = None; leaves = None; retires = Some (owner.Own one_ip); goes = true })) (λ v. None) (Some f) at) is), inl refl))
 
 -- ---- two operations have one key
 

@@ -165,15 +165,16 @@ module _ (plan : Ports) (tables : TableLaws plan) (f : MachineFlight) (fit : (r 
     no_use : (o : Owner) → f.new ≡ None → IsIn o (uses_of plan f.key f.new) → ⊥
     no_use o gone usage = elim (subst (λ z. IsIn o (uses_of plan f.key z)) gone usage) [ ]
 
-    pub removed : (a : Row) → Fits plan f.key a → f.new ≡ None → (V : Thing → Type 0) → Ready (own_things plan f.key a) V → Runs plan f V (take_all (going plan f.key a) [])
-    removed a fits gone V ready =
-        take_runs (going plan f.key a) V []
-        (λ t h. (inl (of t (into t h), gone), (ready.own t (of t (into t h))).1 (into t h)))
+    -- the applied row's things go, and then the rest is done: the new row shares nothing
+    pub taken : (a : Row) (rest : List Change) → Fits plan f.key a → f.goes ≡ true → ((o : Owner) → IsIn o (uses_of plan f.key f.new) → ⊥) → (V : Thing → Type 0) → Ready (own_things plan f.key a) V → ((W : Thing → Type 0) → Ready [] W → Runs plan f W rest) → Runs plan f V (take_all (going plan f.key a) rest)
+    taken a rest fits goes alone V ready next =
+        take_runs (going plan f.key a) V rest
+        (λ t h. (inl (of t (into t h), goes), (ready.own t (of t (into t h))).1 (into t h)))
         (orders.going_apart f.key a fits)
         (λ t u h concern v refers. orders.going_before f.key a u t fits (mine u v concern) (into t h) refers)
-        (finish (minus V (going plan f.key a)) (record {
-          own = λ u is. (λ h. absurd (h.1 u ((orders.going_same f.key a).back u ((ready.own u is).0 h.0)) refl), λ h. elim (subst (λ z. IsIn u (own_of plan f.key z)) gone h) [ ]);
-          shared = λ o u usage is. absurd (no_use o gone usage);
+        (next (minus V (going plan f.key a)) (record {
+          own = λ u is. (λ h. absurd (h.1 u ((orders.going_same f.key a).back u ((ready.own u is).0 h.0)) refl), λ h. elim h [ ]);
+          shared = λ o u usage is. absurd (alone o usage);
         }))
       where
         into : (t : Thing) → IsIn t (going plan f.key a) → IsIn t (own_things plan f.key a)
@@ -184,8 +185,11 @@ module _ (plan : Ports) (tables : TableLaws plan) (f : MachineFlight) (fit : (r 
 
         mine : (u : Thing) → V u → IsConcern plan f (name_of u) → IsIn u (own_things plan f.key a)
         mine u v (o, of, inl is) = (ready.own u (of ∙ ap Some is)).0 v
-        mine u v (o, of, inr (inl usage)) = absurd (no_use o gone usage)
+        mine u v (o, of, inr (inl usage)) = absurd (alone o usage)
         mine u v (o, of, inr (inr retires)) = absurd (no_retire f.retires o none retires)
+
+    pub removed : (a : Row) → Fits plan f.key a → f.goes ≡ true → f.new ≡ None → (V : Thing → Type 0) → Ready (own_things plan f.key a) V → Runs plan f V (take_all (going plan f.key a) [])
+    removed a fits goes gone V ready = taken a [] fits goes (λ o usage. no_use o gone usage) V ready (λ W now. finish W (subst (λ z. Ready (own_of plan f.key z) W) (sym gone) now))
 
     step_by : (b : Bool) (t u : Thing) (ts : List Thing) (rest : List Change) (V : Thing → Type 0) → same_thing t u ≡ b → Ready (t ∷ ts) V → IsOwnedBy plan (name_of u) (OfRow f.key) → IsSettable t u → ((x : Thing) → IsIn x ts → name_of x ≡ name_of u → ⊥) → (like : Thing) → IsIn like (own_of plan f.key f.new) → Resembles u like → ((W : Thing → Type 0) → ((o : Owner) (x : Thing) → IsIn o (uses_of plan f.key f.new) → IsIn x (shared_things o) → W x) → (n : ThingName) → Refers u n → IsConcern plan f n → HasName W n) → ((W : Thing → Type 0) → Ready (u ∷ ts) W → Runs plan f W rest) → Runs plan f V (if b then rest else Set u ∷ rest)
     step_by true t u ts rest V x ready of settable apart like final resembles near next =

@@ -68,7 +68,7 @@ hop_keys [] p prefix h e = elim h [ ]
 hop_keys (x ∷ xs) p prefix (inl is) e = let z = sym is ∙ e in cc
 hop_keys (x ∷ xs) p prefix (inr h) e = hop_keys xs p prefix h e
 
-no_self_by : (k p : Key) (r : Row) → IsIn p (names_of k r) → p ≡ k → ⊥
+pub no_self_by : (k p : Key) (r : Row) → IsIn p (names_of k r) → p ≡ k → ⊥
 no_self_by (key.Member v q) p r (inl is) e = let z = sym is ∙ e in cc
 no_self_by (key.Member v q) p r (inr (inl is)) e = let z = sym is ∙ e in cc
 no_self_by (key.Intf (on.Ethernet q)) p r (inl is) e = let z = sym is ∙ e in cc

@@ -24,7 +24,7 @@ use Rattle.row_layout.specs.Shared.{IsOf, uses}
 use Rattle.row_layout.proofs.Split.{things-split}
 use Rattle.row_layout.specs.Operations.{Change, Make, Set, Take, uses_of}
 use Rattle.switch_machine.specs.Changes.{after}
-use Rattle.switch_machine.specs.Flights.{CanMake, CanSet, MachineFlight, Goes, HasName, IsConcern, IsFinal, Machine, Runs, StandsIn, own_of}
+use Rattle.switch_machine.specs.Flights.{CanMake, CanSet, MachineFlight, Goes, HasName, IsConcern, IsFinal, Machine, Runs, StandsIn, goes_over, own_of}
 use Rattle.switch_machine.specs.Operations.{MayBegin}
 use Rattle.switch_machine.specs.Places.{makes}
 use Rattle.switch_machine.specs.Consistent.{IsConsistent}
@@ -49,9 +49,6 @@ record MadeNames (plan : Ports) (f : MachineFlight) (kind : Kind) (V : Thing →
   final : (n : ThingName) → IsIn n names → (t : Thing) × IsFinal plan f t × (name_of t ≡ n)
   kinds : (n : ThingName) → IsIn n names → level (name_kind n) ≡ level kind
   all : (n : ThingName) → level (name_kind n) ≡ level kind → HasName (after_all due V) n → HasName V n ⊎ IsIn n names
-
-some_none : (r : Row) → Some r ≡ None → ⊥
-some_none r h = cc
 
 module _ (plan : Ports) (f : MachineFlight) (r : Row) (new : f.new ≡ Some r) (none : f.retires ≡ None) (kind : Kind) where
   make_step : (t : Thing) (cs : List Change) (V : Thing → Type 0) (b : Bool) → (level (name_kind (name_of t)) == level kind) ≡ b → CanMake plan f V t → MadeNames plan f kind (λ u. V u ⊎ (u ≡ t)) cs → MadeNames plan f kind V (Make t ∷ cs)
@@ -128,15 +125,15 @@ module _ (plan : Ports) (f : MachineFlight) (r : Row) (new : f.new ≡ Some r) (
       back n (inl (u, inl v, is)) = inl (u, v.0, is)
       back n (inl (u, inr same, is)) = inl (can.old, can.stands, sym (settable_name can.old t can.settable) ∙ sym (ap name_of same) ∙ is)
 
-  no_take : {X : Type 0} (n : ThingName) → Goes plan f n → X
-  no_take n (inl h) = absurd (some_none r (sym new ∙ h.1))
-  no_take n (inr h) = absurd (none-some h.0 (sym none ∙ h.2))
+  no_take : {X : Type 0} (stays : f.goes ≡ true → ⊥) (n : ThingName) → Goes plan f n → X
+  no_take stays n (inl h) = absurd (stays h.1)
+  no_take stays n (inr h) = absurd (none-some h.0 (sym none ∙ h.2))
 
-  made_names : (due : List Change) (V : Thing → Type 0) → Runs plan f V due → MadeNames plan f kind V due
-  made_names [] V runs = record { names = []; distinct = tt; count = refl; fresh = λ n h. elim h [ ]; final = λ n h. elim h [ ]; kinds = λ n h. elim h [ ]; all = λ n at h. inl h }
-  made_names (Make t ∷ cs) V runs = make_step t cs V (level (name_kind (name_of t)) == level kind) refl runs.0 (made_names cs (λ u. V u ⊎ (u ≡ t)) runs.1)
-  made_names (Set t ∷ cs) V runs = set_step t cs V runs.0 (made_names cs (λ u. (V u × (name_of u ≡ name_of t → ⊥)) ⊎ (u ≡ t)) runs.1)
-  made_names (Take n ∷ cs) V runs = no_take n runs.0.goes
+  made_names : (stays : f.goes ≡ true → ⊥) (due : List Change) (V : Thing → Type 0) → Runs plan f V due → MadeNames plan f kind V due
+  made_names stays [] V runs = record { names = []; distinct = tt; count = refl; fresh = λ n h. elim h [ ]; final = λ n h. elim h [ ]; kinds = λ n h. elim h [ ]; all = λ n at h. inl h }
+  made_names stays (Make t ∷ cs) V runs = make_step t cs V (level (name_kind (name_of t)) == level kind) refl runs.0 (made_names stays cs (λ u. V u ⊎ (u ≡ t)) runs.1)
+  made_names stays (Set t ∷ cs) V runs = set_step t cs V runs.0 (made_names stays cs (λ u. (V u × (name_of u ≡ name_of t → ⊥)) ⊎ (u ≡ t)) runs.1)
+  made_names stays (Take n ∷ cs) V runs = no_take stays n runs.0.goes
 
   runs_end : (due : List Change) (V : Thing → Type 0) → Runs plan f V due → (u : Thing) → IsConcern plan f (name_of u) → IsFinal plan f u → after_all due V u
   runs_end [] V runs u c h = (runs u c).1 h
@@ -184,7 +181,7 @@ module _ (plan : Ports) (is : IsPlan plan) (capacities : List ℕ) (m : Machine)
   runs = (starts plan is m sound w f due begins).runs
 
   makes_names : MadeNames plan f kind (StandsIn m) due
-  makes_names = made_names plan f r new begins.none kind due (StandsIn m) runs
+  makes_names = made_names plan f r new begins.none kind (λ goes. false≢true (sym (begins.goes ∙ ap (goes_over f.key (m.board.applied f.key)) new) ∙ goes)) due (StandsIn m) runs
 
   standing : (names : List ThingName) × AreAll (listed m.stands) kind names × (length names ≡ used objects kind)
   standing = counted (listed m.stands) objects laid kind made whole

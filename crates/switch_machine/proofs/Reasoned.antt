@@ -118,8 +118,7 @@ module _ (plan : Ports) (is : IsPlan plan) (workers : ℕ) (capacities : List �
     reason-true k (wait.Busy worker) (inr (prepared, first)) = none_in_the_way (good_of plan s.written k) first.way
       where
         none_in_the_way : (o : Option Row) → IsInTheWay plan s.machine k o worker → ⊥
-        none_in_the_way None way = quiet worker way.0 way.1
-        none_in_the_way (Some row) way = quiet worker way.0 way.1
+        none_in_the_way o way = quiet worker way.0 way.1
 
     pub reason-first : (k : Key) (w : Wait) → IsReason plan workers capacities s k w → NamesFirstKind plan capacities (good_of plan s.written) s.machine.board.applied k w
     reason-first k (wait.Missing n) x = tt

@@ -68,6 +68,7 @@ module _ (plan : Ports) (is : IsPlan plan) (workers : ℕ) (capacities : List �
         one = λ w v f g at there same. absurd cc;
         fit = λ k r row. no_row k r row;
         named = λ k p r row h. no_row k r row;
+        goes = λ w f at. absurd cc;
         leaves = λ w f o at h. absurd cc;
         left = λ w f o at h. absurd cc;
         unused = λ w f k o at h user. cc;

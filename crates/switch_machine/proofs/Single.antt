@@ -19,7 +19,7 @@ use Rattle.switch_model.specs.Marks.{first_missing}
 use Rattle.switch_model.specs.declared.wait.Wait.{Wait}
 use Rattle.switch_model.specs.declared.wait.Wait.TheVariants as wait
 use Rattle.switch_machine.specs.Events.{IsSafe, SwitchState}
-use Rattle.switch_machine.specs.Flights.{MachineFlight}
+use Rattle.switch_machine.specs.Flights.{MachineFlight, goes_over}
 use Rattle.switch_machine.specs.Places.{makes}
 use Rattle.switch_machine.specs.Reasons.{IsFirstInTheWay, IsFlownBy, IsRowPrepared, IsReason, LacksRoom}
 use Rattle.switch_machine.specs.Written.{good_of}
@@ -148,7 +148,7 @@ module _ (plan : Ports) (is : IsPlan plan) (workers : ℕ) (capacities : List �
 
   held_busy : (h : Key) (v : ℕ) → Is (wait.Held h) → IsFlownBy s.machine.board k v ⊎ IsSecond v → ⊥
   held_busy h v (rests, none, _) (inl x) = no_flown v rests x
-  held_busy h v (rests, none, (row, at, by)) (inr (prepared, first)) = prepared.unheld none h by.row by.applied_row by.names
+  held_busy h v (rests, none, (row, at, by)) (inr (prepared, first)) = prepared.unheld (ap (goes_over k (s.machine.board.applied k)) none) h by.row by.applied_row by.names
 
   pub reason-one : (a b : Wait) → Is a → Is b → a ≡ b
   reason-one (wait.Missing m) (wait.Missing n) (_, (row, at, missing)) (_, (other, there, that)) = ap wait.Missing (same_Some m n (sym missing ∙ ap (λ r. first_missing s.machine.board.applied (names_of k r)) (one_row good row other at there) ∙ that))

@@ -1,5 +1,5 @@
 -- the machine stays sound where an operation starts
-use Rattle.std.proofs.Common.{◌≡◌, ◌⊎◌, ◌∙◌, inl, inr, ℕ, List, Option, None, Some, refl, sym, ap, subst}
+use Rattle.std.proofs.Common.{◌≡◌, ◌⊎◌, ◌∙◌, inl, inr, ℕ, true, List, None, Some, refl, sym, ap, subst}
 use Rattle.std.proofs.lemmas.Option.{same_Some}
 use Rattle.table_schema.specs.Plan.{Ports}
 use Rattle.table_schema.specs.Names.{names_of}
@@ -10,16 +10,14 @@ use Rattle.sai_types.specs.Alike.{IsIn}
 use Rattle.row_layout.specs.Rows.{Owner}
 use Rattle.row_layout.specs.Shared.{shared_things}
 use Rattle.row_layout.specs.Operations.{Change, uses_of}
-use Rattle.switch_machine.specs.Flights.{MachineBoard, CountsAsUser, Fits, MachineFlight, IsFirm, IsResting, IsRow, HasChangeOf, IsUser, Machine, Runs, StandsIn}
+use Rattle.switch_machine.specs.Flights.{MachineBoard, CountsAsUser, Fits, MachineFlight, IsFirm, IsResting, IsRow, HasChangeOf, IsUser, Machine, Runs, StandsIn, goes_over}
 use Rattle.switch_machine.specs.Steps.{Starts, started}
 use Rattle.switch_model.specs.Good.{TypedRows}
 use Rattle.switch_machine.specs.Consistent.{IsCurrent, IsUsedOrRetired, IsOrderly, IsConsistent, WasUsed}
 use Rattle.switch_machine.specs.Tables.{TableLaws}
 use Rattle.switch_machine.proofs.Running.{no_retire, untouched, no_flight}
+use Rattle.switch_machine.proofs.Ordered.{no_self_by}
 use Rattle.switch_machine.proofs.Splits.{IsPut, IsSplit, New, Old, key_split, put_at, put_by, put_off, use_row_in}
-
-row_or_none : (o : Option Row) (r : Row) → o ≡ Some r → o ≡ None → ⊥
-row_or_none o r h g = absurd cc
 
 module _ (plan : Ports) (tables : TableLaws plan) (m : Machine) (sound : IsConsistent plan m) (w : ℕ) (f : MachineFlight) (due : List Change) (starts : Starts plan m w f due) where
   abbrev later : Machine
@@ -55,15 +53,15 @@ module _ (plan : Ports) (tables : TableLaws plan) (m : Machine) (sound : IsConsi
   row_now k r (inl h) = inl h
   row_now k r (inr (v, g, at, is, new)) = inr (v, g, still v g at, is, new)
 
-  firm_now : (p : Key) → IsFirm b p → (f.key ≡ p → f.new ≡ None → ⊥) → IsFirm b' p
+  firm_now : (p : Key) → IsFirm b p → (f.key ≡ p → f.goes ≡ true → ⊥) → IsFirm b' p
   firm_now p firm mine = record {
     row = firm.row;
     applied = firm.applied;
     stays = λ v g at is none. of v g is none (by v g at);
   }
     where
-      of : (v : ℕ) (g : MachineFlight) → g.key ≡ p → g.new ≡ None → IsPut w v (Some f) b.flights (Some g) → ⊥
-      of v g is none (New same e) = let one = same_Some f g e in mine (ap (λ (z : MachineFlight). z.key) one ∙ is) (ap (λ (z : MachineFlight). z.new) one ∙ none)
+      of : (v : ℕ) (g : MachineFlight) → g.key ≡ p → g.goes ≡ true → IsPut w v (Some f) b.flights (Some g) → ⊥
+      of v g is none (New same e) = let one = same_Some f g e in mine (ap (λ (z : MachineFlight). z.key) one ∙ is) (ap (λ (z : MachineFlight). z.goes) one ∙ none)
       of v g is none (Old other there) = firm.stays v g there is none
 
   firm_was : (p : Key) → IsFirm b' p → IsFirm b p
@@ -104,7 +102,11 @@ module _ (plan : Ports) (tables : TableLaws plan) (m : Machine) (sound : IsConsi
 
   named_by : (k p : Key) (r : Row) → IsIn p (names_of k r) → IsRow b k r ⊎ ((f.key ≡ k) × (f.new ≡ Some r)) → IsFirm b' p
   named_by k p r h (inl row) = firm_now p (sound.board.named k p r row h) (λ same none. starts.unnamed none k r row (subst (λ q. IsIn q (names_of k r)) (sym same) h))
-  named_by k p r h (inr (is, new)) = firm_now p (starts.named p r new (subst (λ q. IsIn p (names_of q r)) (sym is) h)) (λ same none. row_or_none f.new r new none)
+  named_by k p r h (inr (is, new)) = firm_now p (starts.named p r new (subst (λ q. IsIn p (names_of q r)) (sym is) h)) (λ same none. no_self_by f.key p r (subst (λ q. IsIn p (names_of q r)) (sym is) h) (sym same))
+
+  goes_by : (v : ℕ) (g : MachineFlight) → IsPut w v (Some f) b.flights (Some g) → g.goes ≡ goes_over g.key (b.applied g.key) g.new
+  goes_by v g (New same e) = subst (λ (z : MachineFlight). z.goes ≡ goes_over z.key (b.applied z.key) z.new) (same_Some f g e) starts.goes
+  goes_by v g (Old other there) = sound.board.goes v g there
 
   -- a retiring operation was there before
   retired_was : (v : ℕ) (g : MachineFlight) (o : Owner) → g.retires ≡ Some o → IsPut w v (Some f) b.flights (Some g) → b.flights v ≡ Some g
@@ -127,6 +129,7 @@ module _ (plan : Ports) (tables : TableLaws plan) (m : Machine) (sound : IsConsi
     one = λ u v g h at there same. one_by u v g h same (by u g at) (by v h there);
     fit = λ k r row. fit_by k r (row_was k r row);
     named = λ k p r row h. named_by k p r h (row_was k r row);
+    goes = λ v g at. goes_by v g (by v g at);
     leaves = λ v g o at h. leaves_by v g o h (by v g at);
     left = λ v g o at h. sound.board.left v g o (retired_was v g o h (by v g at)) h;
     unused = λ v g k o at h user. unused_by v g k o (retired_was v g o h (by v g at)) h (user_was k o user);

@@ -11,7 +11,7 @@ use Rattle.sai_types.specs.Names.{ThingName, Refers, name_of}
 use Rattle.row_layout.specs.Rows.{Owner, OfRow, own_things}
 use Rattle.row_layout.specs.Shared.{shared_things, uses}
 use Rattle.switch_machine.specs.Changes.{Resembles}
-use Rattle.switch_machine.specs.Flights.{MachineBoard, Fits, MachineFlight, HasName, IsFirm, IsOwnedBy, IsResting, IsRow, IsShared, HasChangeOf, IsUser, Machine, Runs, StandsIn, own_names, own_of}
+use Rattle.switch_machine.specs.Flights.{MachineBoard, Fits, MachineFlight, HasName, IsFirm, IsOwnedBy, IsResting, IsRow, IsShared, HasChangeOf, IsUser, Machine, Runs, StandsIn, goes_over, own_names, own_of}
 use Rattle.row_layout.specs.Operations.{uses_of}
 
 -- an owner that a flight's key shared before
@@ -26,6 +26,8 @@ pub record IsOrderly (plan : Ports) (b : MachineBoard) : Type 0 where
   pub fit : (k : Key) (r : Row) → IsRow b k r → Fits plan k r
   -- what a row names is applied and stays, be the row applied or to be applied
   pub named : (k p : Key) (r : Row) → IsRow b k r → IsIn p (names_of k r) → IsFirm b p
+  -- an operation tells whether its applied row goes
+  pub goes : (w : ℕ) (f : MachineFlight) → b.flights w ≡ Some f → f.goes ≡ goes_over f.key (b.applied f.key) f.new
   -- what an operation has to leave, and what it retires, its applied row shared
   pub leaves : (w : ℕ) (f : MachineFlight) (o : Owner) → b.flights w ≡ Some f → f.leaves ≡ Some o → WasUsed plan b.applied f.key o × (IsIn o (uses_of plan f.key f.new) → ⊥) × (f.retires ≡ None)
   pub left : (w : ℕ) (f : MachineFlight) (o : Owner) → b.flights w ≡ Some f → f.retires ≡ Some o → WasUsed plan b.applied f.key o

@@ -1,5 +1,5 @@
 -- The rows that are applied, the operations that are under way, and what stands. Own.
-use Rattle.std.specs.Prelude.{◌≡◌, ◌⊎◌, ◌==◌, ◌∷◌, ℕ, List, [], Option, Some, None, if◌then◌else◌}
+use Rattle.std.specs.Prelude.{◌≡◌, ◌⊎◌, ◌==◌, ◌∷◌, ℕ, Bool, true, false, List, [], Option, Some, None, if◌then◌else◌}
 use Rattle.table_schema.specs.Plan.{Ports, lanes_in_plan}
 use Rattle.table_schema.specs.declared.key.Key.{Key}
 use Rattle.table_schema.specs.declared.key.Key.TheVariants as key
@@ -20,12 +20,19 @@ use Rattle.row_layout.specs.Operations.{Change, Make, Set, Take, uses_of}
 use Rattle.row_layout.specs.Shared.{shared_things}
 use Rattle.switch_machine.specs.Changes.{IsSettable, Resembles, after, changed_name}
 
+-- whether the applied row of a key goes: the key has no new row
+abbrev pub goes_over : Key → Option Row → Option Row → Bool
+goes_over k old None = true
+goes_over k old (Some new) = false
+
 -- an operation of a worker: its key, the row that the key is to have, what it shared before and has still to leave, and what it retires because it left it last
 pub record MachineFlight : Type 0 where
   pub key : Key
   pub new : Option Row
   pub leaves : Option Owner
   pub retires : Option Owner
+  -- whether its applied row goes: there is no new one
+  pub goes : Bool
 
 -- the applied rows, and the operation of each worker
 pub record MachineBoard : Type 0 where
@@ -87,7 +94,7 @@ IsRow b k r = (b.applied k ≡ Some r) ⊎ ((w : ℕ) × (f : MachineFlight) × 
 pub record IsFirm (b : MachineBoard) (k : Key) : Type 0 where
   pub row : Row
   pub applied : b.applied k ≡ Some row
-  pub stays : (w : ℕ) (f : MachineFlight) → b.flights w ≡ Some f → f.key ≡ k → f.new ≡ None → ⊥
+  pub stays : (w : ℕ) (f : MachineFlight) → b.flights w ≡ Some f → f.key ≡ k → f.goes ≡ true → ⊥
 
 -- no operation has the key
 abbrev pub IsResting : MachineBoard → Key → Type 0
@@ -140,7 +147,7 @@ pub record CanSet (plan : Ports) (f : MachineFlight) (view : Thing → Type 0) (
 
 -- its row's things go where the row is to go, and what it shared where it retires it
 abbrev pub Goes : Ports → MachineFlight → ThingName → Type 0
-Goes plan f n = (IsOwnedBy plan n (OfRow f.key) × (f.new ≡ None)) ⊎ ((o : Owner) × IsOwnedBy plan n o × (f.retires ≡ Some o))
+Goes plan f n = (IsOwnedBy plan n (OfRow f.key) × (f.goes ≡ true)) ⊎ ((o : Owner) × IsOwnedBy plan n o × (f.retires ≡ Some o))
 
 pub record CanTake (plan : Ports) (f : MachineFlight) (view : Thing → Type 0) (n : ThingName) : Type 0 where
   pub goes : Goes plan f n

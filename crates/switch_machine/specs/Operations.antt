@@ -9,7 +9,7 @@ use Rattle.row_layout.specs.Operations.{Change, make_all, own_changes, uses_of}
 use Rattle.row_layout.specs.Rows.{Owner}
 use Rattle.row_layout.specs.Shared.{shared_things, uses}
 use Rattle.switch_model.specs.Good.{TypedRows}
-use Rattle.switch_machine.specs.Flights.{CountsAsUser, Fits, MachineFlight, HasChangeOf, IsFirm, IsResting, IsRow, IsUser, Machine}
+use Rattle.switch_machine.specs.Flights.{CountsAsUser, Fits, MachineFlight, HasChangeOf, IsFirm, IsResting, IsRow, IsUser, Machine, goes_over}
 use Rattle.switch_machine.specs.Steps.{Leaves}
 
 -- first what is shared is built, where it is absent
@@ -30,8 +30,9 @@ pub record MayBegin (plan : Ports) (m : Machine) (w : ℕ) (f : MachineFlight) (
   pub fit : (r : Row) → f.new ≡ Some r → Fits plan f.key r
   -- nothing is missing
   pub named : (p : Key) (r : Row) → f.new ≡ Some r → IsIn p (names_of f.key r) → IsFirm m.board p
+  pub goes : f.goes ≡ goes_over f.key (m.board.applied f.key) f.new
   -- nothing holds a row that is to go
-  pub unnamed : f.new ≡ None → (k : Key) (r : Row) → IsRow m.board k r → IsIn f.key (names_of k r) → ⊥
+  pub unnamed : f.goes ≡ true → (k : Key) (r : Row) → IsRow m.board k r → IsIn f.key (names_of k r) → ⊥
   -- nobody builds or retires what the new row shares
   pub free : (o : Owner) → IsIn o (uses_of plan f.key f.new) → (v : ℕ) (g : MachineFlight) → m.board.flights v ≡ Some g → (HasChangeOf plan (m.due v) o → ⊥) × (g.retires ≡ Some o → ⊥)
   pub none : f.retires ≡ None

@@ -16,7 +16,7 @@ use Rattle.row_layout.specs.Operations.{Change}
 use Rattle.row_layout.specs.Rows.{Owner}
 use Rattle.row_layout.specs.Shared.{uses}
 use Rattle.switch_machine.specs.Events.{SwitchState}
-use Rattle.switch_machine.specs.Flights.{MachineBoard, MachineFlight, HasChangeOf, IsResting, Machine}
+use Rattle.switch_machine.specs.Flights.{MachineBoard, MachineFlight, HasChangeOf, IsResting, Machine, goes_over}
 use Rattle.switch_machine.specs.Operations.{MayBegin}
 use Rattle.switch_machine.specs.Places.{makes, places_kept}
 use Rattle.switch_machine.specs.Written.{good_of}
@@ -25,22 +25,29 @@ use Rattle.switch_machine.specs.Written.{good_of}
 abbrev pub IsFlownBy : MachineBoard → Key → ℕ → Type 0
 IsFlownBy b k v = (f : MachineFlight) × (b.flights v ≡ Some f) × (f.key ≡ k)
 
--- the operation of this worker takes away a row that the key's new row names, or builds or retires what that row shares; or, where the key has no new row, it brings a row that names the key
+-- where the key's applied row goes, an operation brings a row that names the key
+abbrev pub BringsHolder : Machine → Key → Option Row → MachineFlight → Type 0
+BringsHolder m k new g = (goes_over k (m.board.applied k) new ≡ true) × ((r : Row) × (g.new ≡ Some r) × IsIn k (names_of g.key r))
+
+-- it takes away a row that the key's new row names, or builds or retires what that row shares
+abbrev pub TakesNeeded : Ports → Machine → Key → Option Row → ℕ → MachineFlight → Type 0
+TakesNeeded plan m k new v g = (row : Row) × (new ≡ Some row) × (((g.goes ≡ true) × IsIn g.key (names_of k row)) ⊎ ((o : Owner) × IsIn o (uses plan k row) × (HasChangeOf plan (m.due v) o ⊎ (g.retires ≡ Some o))))
+
+-- the operation of this worker takes away a row that the key's new row names, or builds or retires what that row shares; or, where the key's applied row goes, it brings a row that names the key
 abbrev pub IsInTheWay : Ports → Machine → Key → Option Row → ℕ → Type 0
-IsInTheWay plan m k None v = (g : MachineFlight) × (m.board.flights v ≡ Some g) × ((r : Row) × (g.new ≡ Some r) × IsIn k (names_of g.key r))
-IsInTheWay plan m k (Some row) v = (g : MachineFlight) × (m.board.flights v ≡ Some g) × (((g.new ≡ None) × IsIn g.key (names_of k row)) ⊎ ((o : Owner) × IsIn o (uses plan k row) × (HasChangeOf plan (m.due v) o ⊎ (g.retires ≡ Some o))))
+IsInTheWay plan m k new v = (g : MachineFlight) × (m.board.flights v ≡ Some g) × (BringsHolder m k new g ⊎ TakesNeeded plan m k new v g)
 
 -- it is the least such worker
 pub record IsFirstInTheWay (plan : Ports) (m : Machine) (k : Key) (new : Option Row) (v : ℕ) : Type 0 where
   pub way : IsInTheWay plan m k new v
   pub least : (u : ℕ) → IsInTheWay plan m k new u → v ≤ u
 
--- no operation has the key, its good row is another than its applied one, all that the good row names is applied, and where there is none no applied row names the key
+-- no operation has the key, its good row is another than its applied one, all that the good row names is applied, and where the applied row goes no applied row names the key
 pub record IsRowPrepared (plan : Ports) (s : SwitchState) (k : Key) : Type 0 where
   pub rests : IsResting s.machine.board k
   pub differs : s.machine.board.applied k ≡ good_of plan s.written k → ⊥
   pub named : (r : Row) → good_of plan s.written k ≡ Some r → have_rows s.machine.board.applied (names_of k r) ≡ true
-  pub unheld : good_of plan s.written k ≡ None → (q : Key) (r : Row) → s.machine.board.applied q ≡ Some r → IsIn k (names_of q r) → ⊥
+  pub unheld : goes_over k (s.machine.board.applied k) (good_of plan s.written k) ≡ true → (q : Key) (r : Row) → s.machine.board.applied q ≡ Some r → IsIn k (names_of q r) → ⊥
 
 -- an operation may begin, but for a kind of which it makes objects there is no room beside the places that workers keep, and there is for each lower kind
 pub record LacksRoom (plan : Ports) (workers : ℕ) (capacities : List ℕ) (s : SwitchState) (k : Key) (kind : Kind) : Type 0 where

@@ -1,5 +1,5 @@
 -- The events of the machine, in their smallest steps. Own.
-use Rattle.std.specs.Prelude.{◌≡◌, ◌∷◌, ℕ, List, [], Option, Some, None, if◌then◌else◌}
+use Rattle.std.specs.Prelude.{◌≡◌, ◌∷◌, ℕ, true, List, [], Option, Some, None, if◌then◌else◌}
 use Rattle.std.specs.BTreeMap.{is_at}
 use Rattle.table_schema.specs.Key.{key_cmp}
 use Rattle.table_schema.specs.Plan.{Ports}
@@ -13,7 +13,7 @@ use Rattle.switch_model.specs.Good.{TypedRows}
 use Rattle.row_layout.specs.Rows.{Owner}
 use Rattle.row_layout.specs.Operations.{Change, uses_of}
 use Rattle.switch_machine.specs.Changes.{after}
-use Rattle.switch_machine.specs.Flights.{CountsAsUser, Fits, MachineFlight, IsFirm, IsResting, IsRow, HasChangeOf, IsUser, Machine, Runs, StandsIn, put}
+use Rattle.switch_machine.specs.Flights.{CountsAsUser, Fits, MachineFlight, IsFirm, IsResting, IsRow, HasChangeOf, IsUser, Machine, Runs, StandsIn, goes_over, put}
 
 -- the rows with another one of a key, or none
 abbrev pub with_row : Key → Option Row → TypedRows → TypedRows
@@ -27,8 +27,9 @@ pub record Starts (plan : Ports) (m : Machine) (w : ℕ) (f : MachineFlight) (du
   pub fit : (r : Row) → f.new ≡ Some r → Fits plan f.key r
   -- nothing is missing
   pub named : (p : Key) (r : Row) → f.new ≡ Some r → IsIn p (names_of f.key r) → IsFirm m.board p
+  pub goes : f.goes ≡ goes_over f.key (m.board.applied f.key) f.new
   -- nothing holds a row that is to go
-  pub unnamed : f.new ≡ None → (k : Key) (r : Row) → IsRow m.board k r → IsIn f.key (names_of k r) → ⊥
+  pub unnamed : f.goes ≡ true → (k : Key) (r : Row) → IsRow m.board k r → IsIn f.key (names_of k r) → ⊥
   -- nobody builds or retires what the new row shares
   pub free : (o : Owner) → IsIn o (uses_of plan f.key f.new) → (v : ℕ) (g : MachineFlight) → m.board.flights v ≡ Some g → (HasChangeOf plan (m.due v) o → ⊥) × (g.retires ≡ Some o → ⊥)
   pub none : f.retires ≡ None
@@ -62,7 +63,7 @@ pub record Leaves (m : Machine) (w : ℕ) (f : MachineFlight) (o : Owner) : Type
 
 -- with what it retires from now on
 abbrev pub parted : MachineFlight → Option Owner → MachineFlight
-parted f retires = record { key = f.key; new = f.new; leaves = None; retires = retires }
+parted f retires = record { key = f.key; new = f.new; leaves = None; retires = retires; goes = f.goes }
 
 abbrev pub left : Machine → ℕ → MachineFlight → Option Owner → List Change → Machine
 left m w f retires due = record { board = record { applied = m.board.applied; flights = put w (Some (parted f retires)) m.board.flights }; due = put w due m.due; reserved = m.reserved; stands = m.stands }
