@@ -19,7 +19,7 @@ use Rattle.row_layout.specs.Rows.{Owner}
 use Rattle.row_layout.specs.Shared.{shared_things}
 use Rattle.row_layout.specs.Operations.{Change, own_changes, uses_of}
 use Rattle.switch_machine.specs.Events.{SwitchState, IsSafe, IsQuiet}
-use Rattle.switch_machine.specs.Flights.{Fits, MachineFlight, IsFirm, IsRow, IsShared, IsUser, Machine}
+use Rattle.switch_machine.specs.Flights.{Fits, MachineFlight, IsFirm, IsRow, IsShared, IsUser, Machine, goes_over}
 use Rattle.switch_machine.specs.Operations.{MayBegin, built_first}
 use Rattle.switch_machine.specs.Consistent.{IsUsedOrRetired, IsConsistent}
 use Rattle.switch_machine.specs.Tables.{TableLaws}
@@ -105,11 +105,11 @@ module _ (plan : Ports) (is : IsPlan plan) (m : Machine) (sound : IsConsistent p
   shared_of k (Some r) p h = T.are_shared k r p h
 
   -- at rest a key whose row fits, and whose names are applied or which nothing names, can begin, where its own changes are given
-  pub can-begin : (w : ℕ) (k : Key) (new : Option Row) → ((r : Row) → new ≡ Some r → Fits plan k r) → ((p : Key) (r : Row) → new ≡ Some r → IsIn p (names_of k r) → is_some (m.board.applied p) ≡ true) → (new ≡ None → (q : Key) (r : Row) → m.board.applied q ≡ Some r → IsIn k (names_of q r) → ⊥) → (f : MachineFlight) × (due : List Change) × (f.key ≡ k) × (f.new ≡ new) × MayBegin plan m w f due
+  pub can-begin : (w : ℕ) (k : Key) (new : Option Row) → ((r : Row) → new ≡ Some r → Fits plan k r) → ((p : Key) (r : Row) → new ≡ Some r → IsIn p (names_of k r) → is_some (m.board.applied p) ≡ true) → (goes_over k (m.board.applied k) new ≡ true → (q : Key) (r : Row) → m.board.applied q ≡ Some r → IsIn k (names_of q r) → ⊥) → (f : MachineFlight) × (due : List Change) × (f.key ≡ k) × (f.new ≡ new) × MayBegin plan m w f due
   can-begin w k new fit named unnamed =
       let l = leaving (uses_of plan k (m.board.applied k)) (uses_of plan k new) (one_of k (m.board.applied k)) in
       let b = building (uses_of plan k new) (one_of k new) (shared_of k new) in (
-        record { key = k; new = new; leaves = l.leaves; retires = None },
+        record { key = k; new = new; leaves = l.leaves; retires = None; goes = goes_over k (m.board.applied k) new },
         built_first b.builds (own_changes plan k (m.board.applied k) new),
         refl,
         refl,
@@ -118,7 +118,8 @@ module _ (plan : Ports) (is : IsPlan plan) (m : Machine) (sound : IsConsistent p
           rests = λ v f at e. quiet v f at;
           fit = fit;
           named = λ p r e h. firm p (there (m.board.applied p) (named p r e h));
-          unnamed = λ e q r at h. unnamed_by e q r h at;
+          goes = refl;
+          unnamed = λ goes q r at h. unnamed_by goes q r h at;
           free = λ o h v g at. absurd (quiet v g at);
           none = refl;
           leaves = l.of;
@@ -130,12 +131,12 @@ module _ (plan : Ports) (is : IsPlan plan) (m : Machine) (sound : IsConsistent p
       firm : (p : Key) → ((r : Row) × (m.board.applied p ≡ Some r)) → IsFirm m.board p
       firm p (r, at) = record { row = r; applied = at; stays = λ v f there e none. quiet v f there }
 
-      unnamed_by : new ≡ None → (q : Key) (r : Row) → IsIn k (names_of q r) → IsRow m.board q r → ⊥
-      unnamed_by e q r h (inl at) = unnamed e q r at h
-      unnamed_by e q r h (inr (v, f, at, same, that)) = quiet v f at
+      unnamed_by : goes_over k (m.board.applied k) new ≡ true → (q : Key) (r : Row) → IsIn k (names_of q r) → IsRow m.board q r → ⊥
+      unnamed_by goes q r h (inl at) = unnamed goes q r at h
+      unnamed_by goes q r h (inr (v, f, at, same, that)) = quiet v f at
 
 -- at rest a key that is neither missing a name nor held can begin
-pub begin-free : (plan : Ports) (is : IsPlan plan) (workers : ℕ) (capacities : List ℕ) (s : SwitchState) (w : ℕ) (k : Key) → IsSafe plan workers capacities s → IsQuiet s → IsOnSwitch k → ((r : Row) → good_of plan s.written k ≡ Some r → have_rows s.machine.board.applied (names_of k r) ≡ true) → (good_of plan s.written k ≡ None → (q : Key) (r : Row) → s.machine.board.applied q ≡ Some r → IsIn k (names_of q r) → ⊥) → (f : MachineFlight) × (due : List Change) × (f.key ≡ k) × (f.new ≡ good_of plan s.written k) × MayBegin plan s.machine w f due
+pub begin-free : (plan : Ports) (is : IsPlan plan) (workers : ℕ) (capacities : List ℕ) (s : SwitchState) (w : ℕ) (k : Key) → IsSafe plan workers capacities s → IsQuiet s → IsOnSwitch k → ((r : Row) → good_of plan s.written k ≡ Some r → have_rows s.machine.board.applied (names_of k r) ≡ true) → (goes_over k (s.machine.board.applied k) (good_of plan s.written k) ≡ true → (q : Key) (r : Row) → s.machine.board.applied q ≡ Some r → IsIn k (names_of q r) → ⊥) → (f : MachineFlight) × (due : List Change) × (f.key ≡ k) × (f.new ≡ good_of plan s.written k) × MayBegin plan s.machine w f due
 begin-free plan is workers capacities s w k kept quiet on ready free =
     can-begin plan is s.machine kept.sound quiet w k (good_of plan s.written k) fit (λ p r at h. has_row s.machine.board.applied (names_of k r) p (ready r at) h) free
   where

@@ -1,5 +1,6 @@
 -- at rest a key to sync has a reason to wait, or an operation of it begins
 use Rattle.std.proofs.Common.{◌≡◌, ◌⊎◌, ◌<◌, ◌∷◌, ◌∙◌, inl, inr, ℕ, true, List, [], Option, None, Some, is_some, refl, sym, ap, subst}
+use Rattle.std.proofs.lemmas.Bool.{false≢true}
 use Rattle.std.proofs.lemmas.Option.{same_Some}
 use Rattle.table_schema.specs.Names.{names_of}
 use Rattle.table_schema.specs.Plan.{IsPlan, Ports}
@@ -14,7 +15,7 @@ use Rattle.switch_model.specs.declared.wait.Wait.TheVariants as wait
 use Rattle.switch_model.proofs.Ready.{have_rows-from_missing}
 use Rattle.row_layout.specs.Operations.{Change}
 use Rattle.switch_machine.specs.Events.{HasLeft, IsBegin, IsQuiet, IsSafe, SwitchState}
-use Rattle.switch_machine.specs.Flights.{MachineFlight, Machine}
+use Rattle.switch_machine.specs.Flights.{MachineFlight, Machine, goes_over}
 use Rattle.switch_machine.specs.Next.{MustWait}
 use Rattle.switch_machine.specs.Operations.{MayBegin}
 use Rattle.switch_machine.specs.Places.{HasRoomFor}
@@ -105,7 +106,7 @@ module _ (plan : Ports) (is : IsPlan plan) (workers : ℕ) (capacities : List �
         )
 
     abbrev IsFree : Type 0
-    IsFree = ((r : Row) → good_of plan s.written k ≡ Some r → have_rows rows (names_of k r) ≡ true) × (good_of plan s.written k ≡ None → (q : Key) (r : Row) → rows q ≡ Some r → IsIn k (names_of q r) → ⊥)
+    IsFree = ((r : Row) → good_of plan s.written k ≡ Some r → have_rows rows (names_of k r) ≡ true) × (goes_over k (rows k) (good_of plan s.written k) ≡ true → (q : Key) (r : Row) → rows q ≡ Some r → IsIn k (names_of q r) → ⊥)
 
     no_row : {X : Type 0} (o : Option Row) → o ≡ None → is_some o ≡ true → X
     no_row None e h = absurd cc
@@ -133,7 +134,7 @@ module _ (plan : Ports) (is : IsPlan plan) (workers : ℕ) (capacities : List �
       where
         named : (r : Row) → good_of plan s.written k ≡ Some r → (o : Option Key) → first_missing rows (names_of k r) ≡ o → MustWait plan workers capacities s k ⊎ Starts
         named r e (Some n) missing = inl (wait.Missing n, (rests, (r, e, missing)))
-        named r e None missing = from_free ((λ z at. subst (λ v. have_rows rows (names_of k v) ≡ true) (same_Some r z (sym e ∙ at)) (have_rows-from_missing rows (names_of k r) missing)), λ none. no_some (good_of plan s.written k) r none e)
+        named r e None missing = from_free ((λ z at. subst (λ v. have_rows rows (names_of k v) ≡ true) (same_Some r z (sym e ∙ at)) (have_rows-from_missing rows (names_of k r) missing)), λ goes. absurd (false≢true (sym (ap (goes_over k (rows k)) e) ∙ goes)))
 
         gone : good_of plan s.written k ≡ None → (o : Option Row) → rows k ≡ o → ((holder : Key) × IsHeldBy rows k holder) ⊎ ((q : Key) (r : Row) → rows q ≡ Some r → IsIn k (names_of q r) → ⊥) → MustWait plan workers capacities s k ⊎ Starts
         gone e o at (inr none) = from_free ((λ r good. no_some (good_of plan s.written k) r e good), λ same. none)

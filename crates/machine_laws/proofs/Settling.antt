@@ -20,7 +20,7 @@ use Rattle.row_layout.specs.Operations.{Change, changes_of}
 use Rattle.row_layout.specs.Rows.{Owner}
 use Rattle.row_layout.proofs.Changing.{changes-same}
 use Rattle.switch_machine.specs.Events.{AreAnswers, SwitchState, IsSafe, IsQuiet, after_answers, changes_made}
-use Rattle.switch_machine.specs.Flights.{MachineFlight, Machine}
+use Rattle.switch_machine.specs.Flights.{MachineFlight, Machine, goes_over}
 use Rattle.switch_machine.specs.Places.{makes}
 use Rattle.switch_machine.specs.Reasons.{IsReason}
 use Rattle.switch_machine.specs.Steps.{started, with_row}
@@ -117,7 +117,7 @@ module _ (plan : Ports) (is : IsPlan plan) (workers : ℕ) (capacities : List �
       -- of its key no reason was true
       begun-no_reason : (w : Wait) → IsTrueReason plan capacities good s.machine.board.applied f.key w → ⊥
       begun-no_reason (wait.Missing p) (r, at, h) = no_some (first_missing s.machine.board.applied (names_of f.key r)) p (none_missing s.machine.board.applied (names_of f.key r) (λ q in_it. ap is_some (x.starting.begins.named q r (x.starting.new ∙ at) in_it).applied)) h
-      begun-no_reason (wait.Held h) (none, r, at, held) = x.starting.begins.unnamed (x.starting.new ∙ none) h held.row (inl held.applied_row) held.names
+      begun-no_reason (wait.Held h) (none, r, at, held) = x.starting.begins.unnamed (x.starting.begins.goes ∙ ap (goes_over f.key (s.machine.board.applied f.key)) (x.starting.new ∙ none)) h held.row (inl held.applied_row) held.names
       begun-no_reason (wait.NoRoom kind) (r, at, have, over) = no-overflow plan is capacities s.machine kept.sound quiet s.made s.objects kept.whole kept.laid x.starting.worker f x.starting.due x.starting.begins r (x.starting.new ∙ at) kind (fits (makes kind x.starting.due) refl) over
         where
           fits : (n : ℕ) → makes kind x.starting.due ≡ n → on_chip s.objects kind + makes kind x.starting.due ≤ capacity_of capacities kind

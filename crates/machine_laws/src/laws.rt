@@ -21,7 +21,7 @@ ghost use Rattle.switch_model.specs.Sound.{AreWithin};
 ghost use Rattle.switch_model.specs.Turns.{TakeTurns};
 ghost use Rattle.row_layout.specs.Operations.{Change};
 ghost use Rattle.switch_machine.specs.Events.{AreAnswers, AreEvents, IsBegin, IsDueCall, IsQuiet, IsSafe, SwitchState, after_answers, after_events, calls_of, empty_switch};
-ghost use Rattle.switch_machine.specs.Flights.{Fits, MachineFlight, IsResting, IsRow};
+ghost use Rattle.switch_machine.specs.Flights.{Fits, MachineFlight, IsResting, IsRow, goes_over};
 ghost use Rattle.switch_machine.specs.Next.{MustWait};
 ghost use Rattle.switch_machine.specs.Operations.{MayBegin};
 ghost use Rattle.switch_machine.specs.Places.{HasRoomFor};
@@ -127,12 +127,12 @@ pub fn rows_are_dated()
 {}
 
 /// While no operation is under way an operation of a key that was read may begin for any worker, where all that its good row
-/// names is applied, or where it has none and no applied row names it. Where an operation may begin there is room for it, or the
-/// key lacks room for a first kind; a row that goes needs none. So each key to sync has a reason to wait, or begins.
+/// names is applied and, where its applied row goes, no applied row names it. Where an operation may begin there is room for it,
+/// or the key lacks room for a first kind; a row that goes needs none. So each key to sync has a reason to wait, or begins.
 pub fn keys_may_begin()
     ensures reads { (text : List ℕ) → IsOnSwitch (key_of text) }
     ensures fits { (plan : Ports) (applied : TypedRows) (k : Key) (fields : Pairs) (r : Row) → ((q : Key) (x : Row) → applied q ≡ Some x → Fits plan q x) → IsClosed applied → IsOnSwitch k → good_row plan k (Some fields) ≡ Some r → have_rows applied (names_of k r) ≡ true → Fits plan k r }
-    ensures begins { (plan : Ports) (workers : ℕ) (capacities : List ℕ) (s : SwitchState) (w : ℕ) (k : Key) → IsPlan plan → IsSafe plan workers capacities s → IsQuiet s → IsOnSwitch k → ((r : Row) → good_of plan s.written k ≡ Some r → have_rows s.machine.board.applied (names_of k r) ≡ true) → (good_of plan s.written k ≡ None → (q : Key) (r : Row) → s.machine.board.applied q ≡ Some r → IsIn k (names_of q r) → ⊥) → (f : MachineFlight) × (due : List Change) × (f.key ≡ k) × (f.new ≡ good_of plan s.written k) × MayBegin plan s.machine w f due }
+    ensures begins { (plan : Ports) (workers : ℕ) (capacities : List ℕ) (s : SwitchState) (w : ℕ) (k : Key) → IsPlan plan → IsSafe plan workers capacities s → IsQuiet s → IsOnSwitch k → ((r : Row) → good_of plan s.written k ≡ Some r → have_rows s.machine.board.applied (names_of k r) ≡ true) → (goes_over k (s.machine.board.applied k) (good_of plan s.written k) ≡ true → (q : Key) (r : Row) → s.machine.board.applied q ≡ Some r → IsIn k (names_of q r) → ⊥) → (f : MachineFlight) × (due : List Change) × (f.key ≡ k) × (f.new ≡ good_of plan s.written k) × MayBegin plan s.machine w f due }
     ensures room { (plan : Ports) (workers : ℕ) (capacities : List ℕ) (s : SwitchState) (w : ℕ) (f : MachineFlight) (due : List Change) (row : Row) → MayBegin plan s.machine w f due → f.new ≡ Some row → good_of plan s.written f.key ≡ Some row → HasRoomFor workers capacities s.objects s.machine due ⊎ ((kind : Kind) × LacksRoom plan workers capacities s f.key kind) }
     ensures room_gone { (plan : Ports) (workers : ℕ) (capacities : List ℕ) (s : SwitchState) (w : ℕ) (f : MachineFlight) (due : List Change) → MayBegin plan s.machine w f due → f.new ≡ None → HasRoomFor workers capacities s.objects s.machine due }
     ensures waits_or_begins { (plan : Ports) (workers : ℕ) (capacities : List ℕ) (s : SwitchState) (w : ℕ) (k : Key) → IsPlan plan → IsSafe plan workers capacities s → IsQuiet s → w < workers → IsIn k s.to_sync → IsOnSwitch k → MustWait plan workers capacities s k ⊎ ((t : SwitchState) × (x : IsBegin plan workers capacities s t) × (x.worker ≡ w) × (x.flight.key ≡ k)) }
