@@ -1,5 +1,6 @@
 -- the machine when an operation has started
-use Rattle.std.proofs.Common.{◌≡◌, ◌⊎◌, ◌∷◌, ◌∙◌, inl, inr, ℕ, List, [], None, Some, refl, sym, ap, ap₂, subst}
+use Rattle.std.proofs.Common.{◌≡◌, ◌⊎◌, ◌∷◌, ◌∙◌, inl, inr, ℕ, true, List, [], None, Some, refl, sym, ap, ap₂, subst}
+use Rattle.std.proofs.lemmas.Bool.{false≢true}
 use Rattle.std.proofs.lemmas.Option.{same_Some}
 use Rattle.table_schema.specs.Names.{names_of}
 use Rattle.table_schema.specs.Plan.{IsPlan, Ports}
@@ -13,7 +14,7 @@ use Rattle.row_layout.specs.Rows.{Owner, OfRow}
 use Rattle.row_layout.specs.Shared.{shared_things}
 use Rattle.switch_machine.specs.Changes.{after, changed_name}
 use Rattle.switch_machine.specs.Consistent.{IsConsistent}
-use Rattle.switch_machine.specs.Flights.{MachineBoard, Can, Concerns, CountsAsUser, Fits, MachineFlight, Goes, HasChangeOf, IsFirm, IsOwnedBy, IsResting, IsShared, IsUser, Machine, Runs, StandsIn}
+use Rattle.switch_machine.specs.Flights.{MachineBoard, Can, Concerns, CountsAsUser, Fits, MachineFlight, Goes, HasChangeOf, IsFirm, IsOwnedBy, IsResting, IsShared, IsUser, Machine, Runs, StandsIn, goes_over}
 use Rattle.switch_machine.specs.Operations.{MayBegin}
 use Rattle.switch_machine.specs.Steps.{Starts, started}
 use Rattle.switch_machine.specs.Tables.{TableLaws}
@@ -87,11 +88,11 @@ module _ (plan : Ports) (is : IsPlan plan) (m : Machine) (sound : IsConsistent p
       of (New e one) = other (ap (λ (z : MachineFlight). z.key) (same_Some f g one) ∙ same)
       of (Old off there) = rests v g there same
 
-  firm_now : (p : Key) → IsFirm b p → (f.key ≡ p → f.new ≡ None → ⊥) → IsFirm b' p
+  firm_now : (p : Key) → IsFirm b p → (f.key ≡ p → f.goes ≡ true → ⊥) → IsFirm b' p
   firm_now p firm mine = record { row = firm.row; applied = firm.applied; stays = λ v g at same none. of v g same none (by v g at) }
     where
-      of : (v : ℕ) (g : MachineFlight) → g.key ≡ p → g.new ≡ None → IsPut w v (Some f) b.flights (Some g) → ⊥
-      of v g same none (New e one) = let x = same_Some f g one in mine (ap (λ (z : MachineFlight). z.key) x ∙ same) (ap (λ (z : MachineFlight). z.new) x ∙ none)
+      of : (v : ℕ) (g : MachineFlight) → g.key ≡ p → g.goes ≡ true → IsPut w v (Some f) b.flights (Some g) → ⊥
+      of v g same none (New e one) = let x = same_Some f g one in mine (ap (λ (z : MachineFlight). z.key) x ∙ same) (ap (λ (z : MachineFlight). z.goes) x ∙ none)
       of v g same none (Old off there) = firm.stays v g there same none
 
   pub row_stands : (p : Key) (st : NameState) → (f.key ≡ p → ⊥) → RowStands m p st → RowStands later p st
@@ -99,13 +100,13 @@ module _ (plan : Ports) (is : IsPlan plan) (m : Machine) (sound : IsConsistent p
   row_stands p (state.Building v) other ((g, at, same), none) = ((g, still v g at, same), none)
   row_stands p state.Live other (inl firm) = inl (firm_now p firm (λ e _. other e))
   row_stands p state.Live other (inr made) = inr (record { worker = made.worker; flight = made.flight; flying = still made.worker made.flight made.flying; key = made.key; row = made.row; new = made.new; done = due_old made.worker (apart made.worker made.flight made.flying) ∙ made.done })
-  row_stands p (state.Retiring v) other x = record { flight = x.flight; flying = still v x.flight x.flying; key = x.key; none = x.none; row = x.row; applied = x.applied }
+  row_stands p (state.Retiring v) other x = record { flight = x.flight; flying = still v x.flight x.flying; key = x.key; goes = x.goes; row = x.row; applied = x.applied }
 
   -- the key's own name while another row is to take its row's place
   pub own_stays : (a r : Row) (st : NameState) → b.applied f.key ≡ Some a → f.new ≡ Some r → RowStands m f.key st → RowStands later f.key st
   own_stays a r state.Absent old new (rests, none) = not_some a (sym none ∙ old)
   own_stays a r (state.Building v) old new (flown, none) = not_some a (sym none ∙ old)
-  own_stays a r state.Live old new (inl firm) = inl (firm_now f.key firm (λ _ none. not_some r (sym none ∙ new)))
+  own_stays a r state.Live old new (inl firm) = inl (firm_now f.key firm (λ _ goes. false≢true (sym (begins.goes ∙ ap (goes_over f.key (b.applied f.key)) new) ∙ goes)))
   own_stays a r state.Live old new (inr made) = absurd (begins.rests made.worker made.flight made.flying made.key)
   own_stays a r (state.Retiring v) old new x = absurd (begins.rests v x.flight x.flying x.key)
 

@@ -1,5 +1,6 @@
 -- the registry stands for the machine when an operation has ended
 use Rattle.std.proofs.Common.{◌≡◌, ◌⊎◌, ◌<◌, ◌∙◌, inl, inr, ℕ, true, List, [], Option, None, Some, option_map, refl, sym, ap, subst}
+use Rattle.std.proofs.lemmas.Bool.{false≢true}
 use Rattle.std.specs.List.Sorted.{IsStrictlySortedBy}
 use Rattle.std.proofs.lemmas.Option.{same_Some}
 use Rattle.table_schema.specs.Fields.{HasRisingKeys}
@@ -14,7 +15,7 @@ use Rattle.row_layout.specs.Operations.{uses_of}
 use Rattle.row_layout.specs.Rows as owner
 use Rattle.row_layout.specs.Rows.{Owner}
 use Rattle.switch_machine.specs.Consistent.{IsConsistent}
-use Rattle.switch_machine.specs.Flights.{CountsAsUser, MachineFlight, HasChangeOf, IsFirm, IsResting, IsRow, IsShared, IsUser, Machine, put}
+use Rattle.switch_machine.specs.Flights.{CountsAsUser, MachineFlight, HasChangeOf, IsFirm, IsResting, IsRow, IsShared, IsUser, Machine, goes_over, put}
 use Rattle.switch_machine.specs.Places.{makes}
 use Rattle.switch_machine.specs.Steps.{Ends, finished}
 use Rattle.switch_machine.proofs.Running.{row_keys, shared_row}
@@ -199,15 +200,19 @@ module _ (plan : Ports) (m : Machine) (sound : IsConsistent plan m) (w : ℕ) (f
   other_stands p (state.Building v) other ((h, at, same), none) = ((h, still v h (apart_of p v h other at same) at, same), applied_off p other ∙ none)
   other_stands p state.Live other (inl firm) = inl (record { row = firm.row; applied = applied_off p other ∙ firm.applied; stays = λ v h at same none. firm.stays v h (was_of v h at).1 same none })
   other_stands p state.Live other (inr made) = inr (record { worker = made.worker; flight = made.flight; flying = still made.worker made.flight (apart_of p made.worker made.flight other made.flying made.key) made.flying; key = made.key; row = made.row; new = made.new; done = made.done })
-  other_stands p (state.Retiring v) other x = record { flight = x.flight; flying = still v x.flight (apart_of p v x.flight other x.flying x.key) x.flying; key = x.key; none = x.none; row = x.row; applied = applied_off p other ∙ x.applied }
+  other_stands p (state.Retiring v) other x = record { flight = x.flight; flying = still v x.flight (apart_of p v x.flight other x.flying x.key) x.flying; key = x.key; goes = x.goes; row = x.row; applied = applied_off p other ∙ x.applied }
 
   own_live : (r : Row) → f.new ≡ Some r → RowStands later f.key state.Live
   own_live r new = inl (record { row = r; applied = applied_at f.key refl ∙ new; stays = λ v h at same none. rest_here v h at same })
 
+  -- where there is no new row its applied one goes
+  row_goes : f.new ≡ None → f.goes ≡ true
+  row_goes none = sound.board.goes w f ends.flying ∙ ap (goes_over f.key (m.board.applied f.key)) none
+
   own_going : (st : NameState) → f.new ≡ None → (m.board.applied f.key ≡ None → ⊥) → RowStands m f.key st → st ≡ state.Retiring w
   own_going state.Absent none some (rests, _) = absurd (rests w f ends.flying refl)
   own_going (state.Building v) none some (flown, e) = absurd (some e)
-  own_going state.Live none some (inl firm) = absurd (firm.stays w f ends.flying refl none)
+  own_going state.Live none some (inl firm) = absurd (firm.stays w f ends.flying refl (row_goes none))
   own_going state.Live none some (inr made) = not_some made.row (sym none ∙ ap (λ (z : MachineFlight). z.new) (its made.worker made.flight made.flying (sound.board.one made.worker w made.flight f made.flying ends.flying made.key)) ∙ made.new)
   own_going (state.Retiring v) none some x = ap state.Retiring (sound.board.one v w x.flight f x.flying ends.flying x.key)
 
@@ -249,7 +254,7 @@ module _ (plan : Ports) (m : Machine) (sound : IsConsistent plan m) (w : ℕ) (f
         subst (IsKnownRow later f.key) (sym (gone_at passed (owner.OfRow f.key) w (released_rising w dropped_names (dropped_rising f.key names (named_by f.key old) rising)) (state_at f.key ∙ going))) (record {
           stands = (rest_here, applied_at f.key refl ∙ new);
           users = λ q. (λ h. elim h [ ], λ h. nobody q (key_split f.key q) h);
-          pins = λ q. (λ h. elim h [ ], λ h. let g = was_of q.worker h.0 h.1 in let brings = h.3 in (firm_of h.0.key brings.0 (inr (q.worker, h.0, g.1, refl, brings.1)) brings.2).stays w f ends.flying refl new);
+          pins = λ q. (λ h. elim h [ ], λ h. let g = was_of q.worker h.0 h.1 in let brings = h.3 in (firm_of h.0.key brings.0 (inr (q.worker, h.0, g.1, refl, brings.1)) brings.2).stays w f ends.flying refl (row_goes new));
           rising = none_rising;
         })
       where
@@ -258,7 +263,7 @@ module _ (plan : Ports) (m : Machine) (sound : IsConsistent plan m) (w : ℕ) (f
 
         nobody : (q : Key) → IsSplit f.key q → NamesKey later.board.applied q f.key → ⊥
         nobody q (inl same) (r, at, i) = not_some r (sym (applied_at q same ∙ new) ∙ at)
-        nobody q (inr apart) (r, at, i) = (sound.board.named q f.key r (inl (sym (applied_off q apart) ∙ at)) i).stays w f ends.flying refl new
+        nobody q (inr apart) (r, at, i) = (sound.board.named q f.key r (inl (sym (applied_off q apart) ∙ at)) i).stays w f ends.flying refl (row_goes new)
     own_row (Some r) new = by (state_of passed (name.Row f.key)) refl (subst (RowStands m f.key) (sym (state_at f.key)) (known.names_known.rows f.key).stands)
       where
         by : (st : NameState) → state_of passed (name.Row f.key) ≡ st → RowStands m f.key (state_of passed (name.Row f.key)) → IsKnownRow later f.key (registered_at (finished_in (state_of passed (name.Row f.key)) passed (name.Row f.key)) (name.Row f.key))
@@ -270,7 +275,7 @@ module _ (plan : Ports) (m : Machine) (sound : IsConsistent plan m) (w : ℕ) (f
         by state.Live e stands = subst (IsKnownRow later f.key) (sym (ap (λ st. registered_at (finished_in st passed (name.Row f.key)) (name.Row f.key)) e)) (with_stands f.key (registered_at passed (name.Row f.key)) (users_at_row f.key) (subst (RowStands later f.key) (sym e) (own_live r new)))
         by (state.Retiring v) e stands =
             let x = subst (RowStands m f.key) e stands in
-            not_some r (sym (ap (λ (z : MachineFlight). z.new) (its v x.flight x.flying (sound.board.one v w x.flight f x.flying ends.flying x.key)) ∙ x.none) ∙ new)
+            absurd (false≢true (sym (sound.board.goes w f ends.flying ∙ ap (goes_over f.key (m.board.applied f.key)) new) ∙ ap (λ (z : MachineFlight). z.goes) (its v x.flight x.flying (sound.board.one v w x.flight f x.flying ends.flying x.key)) ∙ x.goes))
 
     row_known : (p : Key) → IsSplit f.key p → IsKnownRow later p (registered_at ended (name.Row p))
     row_known p (inl same) = subst (λ z. IsKnownRow later z (registered_at ended (name.Row z))) same (own_row f.new refl)

@@ -39,12 +39,13 @@ use Rattle.orch_flight.specs.Calling.{IsChangeFor, SetsTo}
 use Rattle.orch_flight.specs.Needing.{name_for, to_build}
 use Rattle.orch_flight.specs.Operation.{Operation}
 use Rattle.orch_flight.specs.Starting.{begun_names, built_here, first_due, leaving, started_by, started_names_by}
-use Rattle.registry_laws.specs.Flown.{built_in, group_in, group_to_build, whole_group}
+use Rattle.registry_laws.specs.Flown.{built_in, flight_of, group_in, group_to_build, whole_group}
 use Rattle.registry_laws.specs.Flying.{IsFlown, IsRestFrom, flown_as}
 use Rattle.registry_laws.specs.Known.{SharedStands}
 use Rattle.registry_laws.specs.Registers.{Registers, beginning, due_first, group_built}
 use Rattle.registry_laws.proofs.Apart.{built_apart}
 use Rattle.registry_laws.proofs.Aside.{building_is, built_some}
+use Rattle.registry_laws.proofs.Going.{told-over}
 use Rattle.registry_laws.proofs.Listing.{never_none, not_some, some_of_due}
 use Rattle.registry_laws.proofs.Nexts.{next_later, next_now, runs_later, sets_by}
 use Rattle.registry_laws.proofs.Rests.{AreInOrder, none_of_group, rest_order}
@@ -107,14 +108,14 @@ module _ (plan : Ports) (is : IsPlan plan) (capacities : List ℕ) (m : Machine)
   abbrev old : Option Row
   old = m.board.applied k
 
-  abbrev f : MachineFlight
-  f = beginning plan k old new
+  abbrev begun : MachineFlight
+  begun = beginning plan k old new
 
   abbrev pub due : List Change
   due = due_first plan names k old new
 
   abbrev pub later : Machine
-  later = started m w f due
+  later = started m w begun due
 
   abbrev pub names' : registry.Names
   names' = begun_names plan names w k old new
@@ -130,10 +131,20 @@ module _ (plan : Ports) (is : IsPlan plan) (capacities : List ℕ) (m : Machine)
   first = record { worker = w; key = k; now = old; new = new; due = own; leaves = leaving plan k old new; retires = None }
 
   pub sound' : IsConsistent plan later
-  sound' = sound-begun plan is m sound w f due begins
+  sound' = sound-begun plan is m sound w begun due begins
+
+  abbrev f : MachineFlight
+  f = flight_of first
+
+  -- it is the one that begins
+  begun_is : begun ≡ f
+  begun_is = ap told (sym (told-over k old new))
+    where
+      told : Bool → MachineFlight
+      told goes = record { key = k; new = new; leaves = leaving plan k old new; retires = None; goes = goes }
 
   here : later.board.flights w ≡ Some f
-  here = put_at w w (Some f) m.board.flights refl
+  here = put_at w w (Some begun) m.board.flights refl ∙ ap Some begun_is
 
   due_is : later.due w ≡ group_built builds ++ own
   due_is = put_at w w due m.due refl ∙ built_apart builds (own_changes plan k old new)

@@ -8,6 +8,7 @@ pub mod Dues
 pub mod Ended
 pub mod Fine
 pub mod Finding
+pub mod Going
 pub mod Lasting
 pub mod GroupReplied
 pub mod Grouped

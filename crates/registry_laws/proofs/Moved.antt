@@ -67,7 +67,7 @@ module _ (plan : Ports) (m : Machine) (w : ℕ) (f : MachineFlight) (c : Change)
   row_stands p (state.Building v) h = h
   row_stands p state.Live (inl firm) = inl (record { row = firm.row; applied = firm.applied; stays = firm.stays })
   row_stands p state.Live (inr made) = inr (record { worker = made.worker; flight = made.flight; flying = made.flying; key = made.key; row = made.row; new = made.new; done = due_old made.worker (λ e. some_of_due c cs (sym moves.due ∙ ap m.due (sym e) ∙ made.done)) ∙ made.done })
-  row_stands p (state.Retiring v) x = record { flight = x.flight; flying = x.flying; key = x.key; none = x.none; row = x.row; applied = x.applied }
+  row_stands p (state.Retiring v) x = record { flight = x.flight; flying = x.flying; key = x.key; goes = x.goes; row = x.row; applied = x.applied }
 
   pub shared_stands : (o : Owner) (st : NameState) → (IsOwnedBy plan (changed_name c) o → HasChangeOf plan cs o) → SharedStands plan m o st → SharedStands plan later o st
   shared_stands o state.Absent more (none, untouched) = (none, λ v g at t. untouched v g at (touch_was v o t))

@@ -29,6 +29,7 @@ use Rattle.orch_flight.specs.Operation.{Operation}
 use Rattle.orch_flight.specs.Starting.{taken_here}
 use Rattle.registry_laws.specs.Flown.{flight_of}
 use Rattle.registry_laws.specs.Flying.{IsBetween}
+use Rattle.registry_laws.proofs.Going.{none_new}
 use Rattle.registry_laws.proofs.Listing.{not_some}
 use Rattle.registry_laws.proofs.Rests.{AreInOrder}
 
@@ -132,7 +133,7 @@ module _ (plan : Ports) (is : IsPlan plan) (m : Machine) (sound : IsConsistent p
 
     -- where a row is to be and nothing is taken away that was shared, nothing of the row is taken away
     none_gone : (n : thing_name.ThingName) → (p.new ≡ None → ⊥) → p.retires ≡ None → Goes plan f n → ⊥
-    none_gone n some none (inl own) = some own.1
+    none_gone n some none (inl own) = some (none_new p.new own.1)
     none_gone n some none (inr x) = not_some x.0 (sym none ∙ x.2)
 
     pub next_later : (due : List Change) → AreInOrder plan p.key (m.board.applied p.key) due → (p.new ≡ None → ⊥) → p.retires ≡ None → Runs plan f V due → IsChangeFor plan p due
@@ -157,7 +158,8 @@ module _ (plan : Ports) (is : IsPlan plan) (m : Machine) (sound : IsConsistent p
       by : Goes plan f n → (old : Thing) × IsIn old (things_held plan p) × (name_of old ≡ n)
       by (inl own) =
           let like = sound.like p.key there.0 there.1 (subst (λ z. IsOwnedBy plan z (owner.OfRow p.key)) (sym there.2) own.0) in
-          let now = now_applied own.1 ∙ its_row like.row like.is own.1 in
+          let none = none_new p.new own.1 in
+          let now = now_applied none ∙ its_row like.row like.is none in
           (like.thing, in-left like.thing (own_of plan p.key p.now) (things_retired p.retires) (subst (λ z. IsIn like.thing (own_of plan p.key z)) (sym now) like.of), sym (resembles_name there.0 like.thing like.resembles) ∙ there.2)
       by (inr (o, own, retires)) =
           let was = sound.board.left w f o flying retires in

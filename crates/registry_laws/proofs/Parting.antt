@@ -1,5 +1,6 @@
 -- the registry stands for the machine when a key has left what it shared
-use Rattle.std.proofs.Common.{◌≡◌, ◌∷◌, ◌∙◌, inl, inr, ℕ, List, [], Option, None, Some, refl, sym, ap, subst}
+use Rattle.std.proofs.Common.{◌≡◌, ◌∷◌, ◌∙◌, inl, inr, ℕ, true, List, [], Option, Some, refl, sym, ap, subst}
+use Rattle.std.proofs.lemmas.Bool.{false≢true}
 use Rattle.std.proofs.lemmas.Option.{same_Some}
 use Rattle.table_schema.specs.Names.{names_of}
 use Rattle.table_schema.specs.Plan.{IsPlan, Ports}
@@ -11,7 +12,7 @@ use Rattle.row_layout.specs.Operations.{Change, Take, shared_going, take_all, us
 use Rattle.row_layout.specs.Rows.{Owner}
 use Rattle.switch_machine.specs.Changes.{changed_name}
 use Rattle.switch_machine.specs.Consistent.{IsConsistent, WasUsed}
-use Rattle.switch_machine.specs.Flights.{CountsAsUser, MachineFlight, HasChangeOf, IsFirm, IsOwnedBy, IsResting, IsShared, IsUser, Machine}
+use Rattle.switch_machine.specs.Flights.{CountsAsUser, MachineFlight, HasChangeOf, IsFirm, IsOwnedBy, IsResting, IsShared, IsUser, Machine, goes_over}
 use Rattle.switch_machine.specs.Steps.{Leaves, left, parted}
 use Rattle.switch_machine.proofs.Ordered.{ordered}
 use Rattle.switch_machine.proofs.Splits.{IsPut, IsSplit, New, Old, nat_split, put_at, put_by, put_off}
@@ -80,19 +81,19 @@ module _ (plan : Ports) (is : IsPlan plan) (m : Machine) (sound : IsConsistent p
     due_old v apart = put_off w v due m.due apart
 
     -- the operation with the same key and row
-    pub now_of : (v : ℕ) (h : MachineFlight) → m.board.flights v ≡ Some h → (x : MachineFlight) × (later.board.flights v ≡ Some x) × (x.key ≡ h.key) × (x.new ≡ h.new)
+    pub now_of : (v : ℕ) (h : MachineFlight) → m.board.flights v ≡ Some h → (x : MachineFlight) × (later.board.flights v ≡ Some x) × (x.key ≡ h.key) × (x.new ≡ h.new) × (x.goes ≡ h.goes)
     now_of v h at = of (nat_split v w)
       where
-        of : IsSplit v w → (x : MachineFlight) × (later.board.flights v ≡ Some x) × (x.key ≡ h.key) × (x.new ≡ h.new)
-        of (inl same) = let one = same_Some f h (sym leaving.flying ∙ ap m.board.flights (sym same) ∙ at) in (g, put_at w v (Some g) m.board.flights same, ap (λ (z : MachineFlight). z.key) one, ap (λ (z : MachineFlight). z.new) one)
-        of (inr apart) = (h, old_at v h apart at, refl, refl)
+        of : IsSplit v w → (x : MachineFlight) × (later.board.flights v ≡ Some x) × (x.key ≡ h.key) × (x.new ≡ h.new) × (x.goes ≡ h.goes)
+        of (inl same) = let one = same_Some f h (sym leaving.flying ∙ ap m.board.flights (sym same) ∙ at) in (g, put_at w v (Some g) m.board.flights same, ap (λ (z : MachineFlight). z.key) one, ap (λ (z : MachineFlight). z.new) one, ap (λ (z : MachineFlight). z.goes) one)
+        of (inr apart) = (h, old_at v h apart at, refl, refl, refl)
 
-    pub was_of : (v : ℕ) (h : MachineFlight) → later.board.flights v ≡ Some h → (x : MachineFlight) × (m.board.flights v ≡ Some x) × (x.key ≡ h.key) × (x.new ≡ h.new)
+    pub was_of : (v : ℕ) (h : MachineFlight) → later.board.flights v ≡ Some h → (x : MachineFlight) × (m.board.flights v ≡ Some x) × (x.key ≡ h.key) × (x.new ≡ h.new) × (x.goes ≡ h.goes)
     was_of v h at = of (by v h at)
       where
-        of : IsPut w v (Some g) m.board.flights (Some h) → (x : MachineFlight) × (m.board.flights v ≡ Some x) × (x.key ≡ h.key) × (x.new ≡ h.new)
-        of (New same e) = let one = same_Some g h e in (f, ap m.board.flights same ∙ leaving.flying, ap (λ (z : MachineFlight). z.key) one, ap (λ (z : MachineFlight). z.new) one)
-        of (Old apart there) = (h, there, refl, refl)
+        of : IsPut w v (Some g) m.board.flights (Some h) → (x : MachineFlight) × (m.board.flights v ≡ Some x) × (x.key ≡ h.key) × (x.new ≡ h.new) × (x.goes ≡ h.goes)
+        of (New same e) = let one = same_Some g h e in (f, ap m.board.flights same ∙ leaving.flying, ap (λ (z : MachineFlight). z.key) one, ap (λ (z : MachineFlight). z.new) one, ap (λ (z : MachineFlight). z.goes) one)
+        of (Old apart there) = (h, there, refl, refl, refl)
 
     -- ---- rows
 
@@ -103,7 +104,7 @@ module _ (plan : Ports) (is : IsPlan plan) (m : Machine) (sound : IsConsistent p
     resting_was p rests v h at same = let x = now_of v h at in rests v x.0 x.1 (x.2 ∙ same)
 
     firm_now : (p : Key) → IsFirm m.board p → IsFirm later.board p
-    firm_now p firm = record { row = firm.row; applied = firm.applied; stays = λ v h at same none. let x = was_of v h at in firm.stays v x.0 x.1 (x.2 ∙ same) (x.3 ∙ none) }
+    firm_now p firm = record { row = firm.row; applied = firm.applied; stays = λ v h at same none. let x = was_of v h at in firm.stays v x.0 x.1 (x.2 ∙ same) (x.4 ∙ none) }
 
     made_now : (p : Key) (made : IsAllMade m p) → IsSplit made.worker w → RowStands later p state.Live
     made_now p made (inr apart) = inr (record { worker = made.worker; flight = made.flight; flying = old_at made.worker made.flight apart made.flying; key = made.key; row = made.row; new = made.new; done = due_old made.worker apart ∙ made.done })
@@ -118,19 +119,19 @@ module _ (plan : Ports) (is : IsPlan plan) (m : Machine) (sound : IsConsistent p
         key : f.key ≡ p
         key = ap (λ (z : MachineFlight). z.key) one ∙ made.key
 
-        stays : (v : ℕ) (h : MachineFlight) → later.board.flights v ≡ Some h → h.key ≡ p → h.new ≡ None → ⊥
-        stays v h at e none =
+        stays : (v : ℕ) (h : MachineFlight) → later.board.flights v ≡ Some h → h.key ≡ p → h.goes ≡ true → ⊥
+        stays v h at e goes =
             let x = was_of v h at in
             let worker = sound.board.one v w x.0 f x.1 leaving.flying (x.2 ∙ e ∙ sym key) in
             let that = same_Some f x.0 (sym leaving.flying ∙ ap m.board.flights (sym worker) ∙ x.1) in
-            not_some made.row (sym (x.3 ∙ none) ∙ ap (λ (z : MachineFlight). z.new) (sym that ∙ one) ∙ made.new)
+            false≢true (sym (sound.board.goes w f leaving.flying ∙ ap (goes_over f.key (m.board.applied f.key)) (ap (λ (z : MachineFlight). z.new) one ∙ made.new)) ∙ ap (λ (z : MachineFlight). z.goes) that ∙ x.4 ∙ goes)
 
     row_stands : (p : Key) (st : NameState) → RowStands m p st → RowStands later p st
     row_stands p state.Absent (rests, none) = (resting_now p rests, none)
     row_stands p (state.Building v) ((h, at, same), none) = let x = now_of v h at in ((x.0, x.1, x.2 ∙ same), none)
     row_stands p state.Live (inl firm) = inl (firm_now p firm)
     row_stands p state.Live (inr made) = made_now p made (nat_split made.worker w)
-    row_stands p (state.Retiring v) y = let x = now_of v y.flight y.flying in record { flight = x.0; flying = x.1; key = x.2 ∙ y.key; none = x.3 ∙ y.none; row = y.row; applied = y.applied }
+    row_stands p (state.Retiring v) y = let x = now_of v y.flight y.flying in record { flight = x.0; flying = x.1; key = x.2 ∙ y.key; goes = x.4 ∙ y.goes; row = y.row; applied = y.applied }
 
     pin_now : (p : Key) (q : Pin) → IsPinOf m.board p q → IsPinOf later.board p q
     pin_now p q (h, at, same, (r, new, i)) = let x = now_of q.worker h at in (x.0, x.1, x.2 ∙ same, (r, x.3 ∙ new, subst (λ z. IsIn p (names_of z r)) (sym x.2) i))

@@ -17,7 +17,7 @@ use Rattle.row_layout.specs.Rows as owner
 use Rattle.row_layout.specs.Rows.{Owner}
 use Rattle.row_layout.specs.Shared.{shared_things, uses}
 use Rattle.switch_machine.specs.Consistent.{IsConsistent}
-use Rattle.switch_machine.specs.Flights.{MachineFlight, HasChangeOf, IsShared, IsUser, Machine, put}
+use Rattle.switch_machine.specs.Flights.{MachineFlight, HasChangeOf, IsShared, IsUser, Machine, goes_over, put}
 use Rattle.switch_machine.specs.Operations.{MayBegin, built_first}
 use Rattle.switch_machine.specs.Places.{AreCovered, makes}
 use Rattle.switch_machine.specs.Steps.{started}
@@ -133,7 +133,7 @@ module _ (plan : Ports) (is : IsPlan plan) (m : Machine) (sound : IsConsistent p
     where
       by : (old ≡ None) ⊎ (n ≡ None) → IsPinOf m.board k q ⊎ ((q ≡ record { worker = w; user = k }) × NamesNew w k n k) → ⊥
       by (inl none) (inl (g, at, same, (r, new, h))) = let firm = sound.board.named g.key k r (inr (q.worker, g, at, refl, new)) h in not_some firm.row (sym none ∙ firm.applied)
-      by (inr none) (inl (g, at, same, (r, new, h))) = begins.unnamed none g.key r (inr (q.worker, g, at, refl, new)) h
+      by (inr none) (inl (g, at, same, (r, new, h))) = begins.unnamed (ap (goes_over k old) none) g.key r (inr (q.worker, g, at, refl, new)) h
       by _ (inr (e, (r, new, h))) = no_self r k h refl
 
   pinned_own : registered_at pinned_names (name.Row k) ≡ registered_at names (name.Row k)
@@ -151,7 +151,7 @@ module _ (plan : Ports) (is : IsPlan plan) (m : Machine) (sound : IsConsistent p
       of : (o : Option Registered) → registered_at names (name.Row k) ≡ o → IsKnownRow m k o → IsKnownRow later k (registered_at (with_own pinned_names w k (Some a) None) (name.Row k))
       of None e x = not_some a (sym x.stands.1 ∙ was)
       of (Some r) e x = subst (IsKnownRow later k) (sym (found_at pinned_names (owner.OfRow k) (begun_to_go w) ∙ ap (option_map (begun_to_go w)) (pinned_own ∙ e))) (record {
-        stands = record { flight = f; flying = begun_facts.here plan is m sound w f due begins; key = refl; none = new; row = a; applied = was };
+        stands = record { flight = f; flying = begun_facts.here plan is m sound w f due begins; key = refl; goes = ap (goes_over k old) new; row = a; applied = was };
         users = x.users;
         pins = λ q. (λ h. elim h [ ], λ h. no_pin q (inr new) h);
         rising = x.rising;

@@ -1,6 +1,7 @@
 -- what the registry's answers say of the machine
 use Rattle.std.proofs.Common.{◌≡◌, ◌⊎◌, ◌∷◌, ◌≤◌, ◌∙◌, inl, inr, ℕ, true, List, [], map, Option, None, Some, is_some, refl, sym, ap, subst, if◌then◌else◌}
 use Rattle.std.proofs.lemmas.Bool.{and_parts, false≢true}
+use Rattle.std.proofs.lemmas.Option.{same_Some}
 use Rattle.table_schema.specs.Names.{names_of}
 use Rattle.table_schema.specs.Plan.{IsPlan, Ports}
 use Rattle.table_schema.specs.declared.key.Key.{Key}
@@ -140,11 +141,11 @@ module _ (plan : Ports) (is : IsPlan plan) (workers : ℕ) (capacities : List �
       where
         by_row : (p : Key) → IsIn p (names_of k r) → (st : NameState) → RowStands m p st → (st ≡ state.Building v) ⊎ (st ≡ state.Retiring v) → IsInTheWay plan m k (Some r) v
         by_row p i st stands (inl e) = let x = subst (RowStands m p) e stands in absurd (have_at m.board.applied (names_of k r) p have i x.1)
-        by_row p i st stands (inr e) = let x = subst (RowStands m p) e stands in (x.flight, x.flying, inl (x.none, subst (λ z. IsIn z (names_of k r)) (sym x.key) i))
+        by_row p i st stands (inr e) = let x = subst (RowStands m p) e stands in (x.flight, x.flying, inr (r, refl, inl (x.goes, subst (λ z. IsIn z (names_of k r)) (sym x.key) i)))
 
         by_shared : (o : Owner) → IsIn o (uses plan k r) → (st : NameState) → SharedStands plan m o st → (st ≡ state.Building v) ⊎ (st ≡ state.Retiring v) → IsInTheWay plan m k (Some r) v
-        by_shared o i st stands (inl e) = let x = subst (SharedStands plan m o) e stands in (x.0, x.1, inr (o, i, inl x.2))
-        by_shared o i st stands (inr e) = let x = subst (SharedStands plan m o) e stands in (x.0, x.1, inr (o, i, inr x.3))
+        by_shared o i st stands (inl e) = let x = subst (SharedStands plan m o) e stands in (x.0, x.1, inr (r, refl, inr (o, i, inl x.2)))
+        by_shared o i st stands (inr e) = let x = subst (SharedStands plan m o) e stands in (x.0, x.1, inr (r, refl, inr (o, i, inr x.3)))
 
         by : (n : Name) → owner_in (state_of names n) ≡ Some v → IsIn n (map name.Row (names_of k r)) ⊎ IsIn n (map name_for (uses plan k r)) → IsInTheWay plan m k (Some r) v
         by n e (inl i) =
@@ -167,7 +168,7 @@ module _ (plan : Ports) (is : IsPlan plan) (workers : ℕ) (capacities : List �
     touched_owner o v g state.Live (some, still) at t = absurd (still v g at t)
     touched_owner o v g (state.Retiring u) (f, there, x, retires) at t = ap Some (touched-one plan is m sound u v f g o there at x t)
 
-    going_owner : (p : Key) (v : ℕ) (g : MachineFlight) (st : NameState) → IsIn p (names_of k r) → RowStands m p st → m.board.flights v ≡ Some g → g.key ≡ p → g.new ≡ None → owner_in st ≡ Some v
+    going_owner : (p : Key) (v : ℕ) (g : MachineFlight) (st : NameState) → IsIn p (names_of k r) → RowStands m p st → m.board.flights v ≡ Some g → g.key ≡ p → g.goes ≡ true → owner_in st ≡ Some v
     going_owner p v g state.Absent i (rests, none) at same gone = absurd (rests v g at same)
     going_owner p v g (state.Building u) i (flown, none) at same gone = absurd (have_at m.board.applied (names_of k r) p have i none)
     going_owner p v g state.Live i (inl firm) at same gone = absurd (firm.stays v g at same gone)
@@ -175,14 +176,22 @@ module _ (plan : Ports) (is : IsPlan plan) (workers : ℕ) (capacities : List �
     going_owner p v g (state.Retiring u) i x at same gone = ap Some (sound.board.one u v x.flight g x.flying at (x.key ∙ sym same))
 
     pub way_in : (v : ℕ) → IsInTheWay plan m k (Some r) v → IsIn v (workers_on names Needed)
-    way_in v (g, at, inl (gone, i)) = on_row g.key v i (going_owner g.key v g (state_of names (name.Row g.key)) i (row_at g.key) at refl gone)
-    way_in v (g, at, inr (o, i, inl t)) = on_shared o v i (touched_owner o v g (state_of names (name_for o)) (shared_at o (is_shared o i)) at t)
-    way_in v (g, at, inr (o, i, inr retires)) = on_shared o v i (touched_owner o v g (state_of names (name_for o)) (shared_at o (is_shared o i)) at (retires_touched v g o at retires))
+    way_in v (g, at, inl (goes, brings)) = absurd (false≢true goes)
+    way_in v (g, at, inr (row, is, takes)) = by (subst (λ z. Takes z) (sym (same_Some r row is)) takes)
+      where
+        Takes : Row → Type 0
+        Takes z = ((g.goes ≡ true) × IsIn g.key (names_of k z)) ⊎ ((o : Owner) × IsIn o (uses plan k z) × (HasChangeOf plan (m.due v) o ⊎ (g.retires ≡ Some o)))
+
+        by : Takes r → IsIn v (workers_on names Needed)
+        by (inl (gone, i)) = on_row g.key v i (going_owner g.key v g (state_of names (name.Row g.key)) i (row_at g.key) at refl gone)
+        by (inr (o, i, inl t)) = on_shared o v i (touched_owner o v g (state_of names (name_for o)) (shared_at o (is_shared o i)) at t)
+        by (inr (o, i, inr retires)) = on_shared o v i (touched_owner o v g (state_of names (name_for o)) (shared_at o (is_shared o i)) at (retires_touched v g o at retires))
 
   -- ---- who is in the way of a key that is to go
 
   pub pin_way : (k : Key) (v : ℕ) (p : Pin) → IsIn p (pins_at (registered_at names (name.Row k))) → v ≡ p.worker → IsInTheWay plan m k None v
-  pin_way k v p i e = let x = ((known.names_known.rows k).pins p).0 i in (x.0, ap m.board.flights e ∙ x.1, x.3)
+  pin_way k v p i e = let x = ((known.names_known.rows k).pins p).0 i in (x.0, ap m.board.flights e ∙ x.1, inl (refl, x.3))
 
   pub way_pin : (k : Key) (v : ℕ) → IsInTheWay plan m k None v → (p : Pin) × IsIn p (pins_at (registered_at names (name.Row k))) × (p.worker ≡ v)
-  way_pin k v (g, at, brings) = let p : Pin = record { worker = v; user = g.key } in (p, ((known.names_known.rows k).pins p).1 (g, at, refl, brings), refl)
+  way_pin k v (g, at, inr (row, is, takes)) = not_some row is
+  way_pin k v (g, at, inl (goes, brings)) = let p : Pin = record { worker = v; user = g.key } in (p, ((known.names_known.rows k).pins p).1 (g, at, refl, brings), refl)

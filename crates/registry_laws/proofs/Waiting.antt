@@ -17,7 +17,7 @@ use Rattle.row_layout.specs.Operations.{Change, going, own_changes, uses_of}
 use Rattle.row_layout.specs.Rows.{Owner}
 use Rattle.row_layout.specs.Shared.{uses}
 use Rattle.switch_machine.specs.Events.{IsSafe, SwitchState}
-use Rattle.switch_machine.specs.Flights.{Fits, MachineFlight, HasChangeOf, IsFirm, IsResting, IsRow, IsUser, Machine}
+use Rattle.switch_machine.specs.Flights.{Fits, MachineFlight, HasChangeOf, IsFirm, IsResting, IsRow, IsUser, Machine, goes_over}
 use Rattle.switch_machine.specs.Operations.{MayBegin}
 use Rattle.sai_types.specs.Objects.{level, used}
 use Rattle.sai_types.specs.Refusal.{capacity_of}
@@ -37,6 +37,7 @@ use Rattle.ref_counts.specs.declared.pin.Pin.{Pin}
 use Rattle.orch_flight.specs.Needing.{busy_for, crowded_for, first_unapplied, holder_of, least_of, missing_for, name_for, or_else, pinning, places_for, to_build, wait_of, workers_on}
 use Rattle.registry_laws.specs.Known.{RowStands, SharedStands, pins_at}
 use Rattle.registry_laws.specs.Registers.{AreUsed, HaveDue, Registers, beginning, due_first}
+use Rattle.registry_laws.proofs.Going.{none_over}
 use Rattle.registry_laws.proofs.Listing.{else_none, else_some, first_listed_in, first_least, first_none, least_below, least_in, least_none, never_none, not_some}
 use Rattle.registry_laws.proofs.Rooming.{lacking_first, lacking_none, lacks_false, lacks_true}
 use Rattle.registry_laws.proofs.Sharing.{absent_first, absent_none, leaving_covers, left_apart}
@@ -136,15 +137,15 @@ module _ (plan : Ports) (is : IsPlan plan) (workers : ℕ) (capacities : List �
     clear : (v : ℕ) → IsInTheWay plan m k n v → ⊥
     clear = clear_by n miss none
 
-    unnamed : n ≡ None → (q : Key) (r : Row) → IsRow m.board q r → IsIn k (names_of q r) → ⊥
-    unnamed e q r (inl at) i = unheld_by n hold e q r at i
-    unnamed e q r (inr (v, g, at, same, brings)) i = clear v (subst (λ z. IsInTheWay plan m k z v) (sym e) (g, at, (r, brings, subst (λ z. IsIn k (names_of z r)) (sym same) i)))
+    unnamed : goes_over k old n ≡ true → (q : Key) (r : Row) → IsRow m.board q r → IsIn k (names_of q r) → ⊥
+    unnamed goes q r (inl at) i = unheld_by n hold (none_over k old n goes) q r at i
+    unnamed goes q r (inr (v, g, at, same, brings)) i = clear v (g, at, inl (goes, (r, brings, subst (λ z. IsIn k (names_of z r)) (sym same) i)))
 
     free_by : (o : Owner) (x : Option Row) → n ≡ x → IsIn o (uses_of plan k x) → (v : ℕ) (g : MachineFlight) → m.board.flights v ≡ Some g → (HasChangeOf plan (m.due v) o → ⊥) × (g.retires ≡ Some o → ⊥)
     free_by o None e i v g at = elim i [ ]
     free_by o (Some r) e i v g at = (
-      λ t. clear v (subst (λ z. IsInTheWay plan m k z v) (sym e) (g, at, inr (o, i, inl t))),
-      λ t. clear v (subst (λ z. IsInTheWay plan m k z v) (sym e) (g, at, inr (o, i, inr t))),
+      λ t. clear v (g, at, inr (r, e, inr (o, i, inl t))),
+      λ t. clear v (g, at, inr (r, e, inr (o, i, inr t))),
     )
 
     built_by : (x : Option Row) → (o : Owner) → to_build plan names k x ≡ Some o → IsIn o (uses_of plan k x) × ((q : Key) → IsUser plan m.board q o → ⊥)
@@ -169,6 +170,7 @@ module _ (plan : Ports) (is : IsPlan plan) (workers : ℕ) (capacities : List �
       rests = rests;
       fit = λ r h. fits r (good ∙ h) (have_by n miss r h);
       named = λ p r h i. named_by n refl miss none p r h i;
+      goes = refl;
       unnamed = unnamed;
       free = λ o i v g at. free_by o n refl i v g at;
       none = refl;
@@ -263,7 +265,7 @@ module _ (plan : Ports) (is : IsPlan plan) (workers : ℕ) (capacities : List �
                 rests = rests;
                 differs = λ e. differs (e ∙ good);
                 named = λ r e. have_by n miss r (sym good ∙ e);
-                unheld = λ e q r at i. unheld_by n hold (sym good ∙ e) q r at i;
+                unheld = λ goes q r at i. unheld_by n hold (sym good ∙ none_over k old (good_of plan s.written k) goes) q r at i;
               },
               subst (λ z. IsFirstInTheWay plan m k z b.0) (sym good) b.2,
             ))

@@ -1,5 +1,5 @@
 -- What a worker has under way, and what is due for it. Own.
-use Rattle.std.specs.Prelude.{◌==◌, ◌++◌, ℕ, Bool, true, false, List, [], ◌∷◌, Option, Some, None, if◌then◌else◌}
+use Rattle.std.specs.Prelude.{◌==◌, ◌++◌, ℕ, Bool, true, false, List, [], ◌∷◌, Option, Some, None, is_some, not, if◌then◌else◌}
 use Rattle.table_schema.specs.Plan.{Ports}
 use Rattle.sai_types.specs.declared.hop.Hop.{Hop}
 use Rattle.row_layout.specs.Operations.{Change, uses_of}
@@ -18,9 +18,9 @@ pub record Flown : Type 0 where
   pub operation : Operation
   pub group : Option GroupOperation
 
--- an operation, as the machine has it
+-- an operation, as the machine has it: its applied row goes where there is no new one
 abbrev pub flight_of : Operation → MachineFlight
-flight_of f = record { key = f.key; new = f.new; leaves = f.leaves; retires = f.retires }
+flight_of f = record { key = f.key; new = f.new; leaves = f.leaves; retires = f.retires; goes = not (is_some f.new) }
 
 -- the group among what is shared
 abbrev pub group_in : List Owner → Option (List Hop)

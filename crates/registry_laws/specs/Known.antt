@@ -1,5 +1,5 @@
 -- What the registry knows of one name, and what that says of the machine. Own.
-use Rattle.std.specs.Prelude.{◌≡◌, ◌⊎◌, ℕ, List, [], Option, Some, None}
+use Rattle.std.specs.Prelude.{◌≡◌, ◌⊎◌, ℕ, true, List, [], Option, Some, None}
 use Rattle.std.specs.List.Sorted.{IsStrictlySortedBy}
 use Rattle.table_schema.specs.Key.{key_cmp}
 use Rattle.table_schema.specs.Names.{names_of}
@@ -38,7 +38,7 @@ pub record IsTakenAway (m : Machine) (k : Key) (worker : ℕ) : Type 0 where
   pub flight : MachineFlight
   pub flying : m.board.flights worker ≡ Some flight
   pub key : flight.key ≡ k
-  pub none : flight.new ≡ None
+  pub goes : flight.goes ≡ true
   pub row : Row
   pub applied : m.board.applied k ≡ Some row
 

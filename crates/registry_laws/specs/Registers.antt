@@ -10,7 +10,7 @@ use Rattle.row_layout.specs.Operations.{Change, make_all, own_changes, shared_go
 use Rattle.row_layout.specs.Rows.{Group, Owner}
 use Rattle.row_layout.specs.Shared.{shared_things}
 use Rattle.switch_machine.specs.Changes.{changed_name}
-use Rattle.switch_machine.specs.Flights.{MachineFlight, IsOwnedBy, IsShared, Machine}
+use Rattle.switch_machine.specs.Flights.{MachineFlight, IsOwnedBy, IsShared, Machine, goes_over}
 use Rattle.switch_machine.specs.Operations.{built_first}
 use Rattle.switch_machine.specs.Places.{makes}
 use Rattle.sai_types.specs.declared.ids.Vid.{Vid}
@@ -57,7 +57,7 @@ AreUsed objects numbers = (kind : Kind) → number_of_kind numbers kind ≡ used
 
 -- the operation that begins, and what is due for it
 abbrev pub beginning : Ports → Key → Option Row → Option Row → MachineFlight
-beginning plan k old new = record { key = k; new = new; leaves = leaving plan k old new; retires = None }
+beginning plan k old new = record { key = k; new = new; leaves = leaving plan k old new; retires = None; goes = goes_over k old new }
 
 abbrev pub due_first : Ports → registry.Names → Key → Option Row → Option Row → List Change
 due_first plan names k old new = built_first (to_build plan names k new) (own_changes plan k old new)

@@ -34,7 +34,7 @@ module _ (m : Machine) (later : List (Rid × Thing)) (into : (u : Thing) → Sta
   row_stands k (state.Building w) h = h
   row_stands k state.Live (inl firm) = inl firm
   row_stands k state.Live (inr x) = inr (record { worker = x.worker; flight = x.flight; flying = x.flying; key = x.key; row = x.row; new = x.new; done = x.done })
-  row_stands k (state.Retiring w) x = record { flight = x.flight; flying = x.flying; key = x.key; none = x.none; row = x.row; applied = x.applied }
+  row_stands k (state.Retiring w) x = record { flight = x.flight; flying = x.flying; key = x.key; goes = x.goes; row = x.row; applied = x.applied }
 
   row_known : (k : Key) (o : Option Registered) → IsKnownRow m k o → IsKnownRow t k o
   row_known k o x = record { stands = row_stands k (state_in o) x.stands; users = x.users; pins = x.pins; rising = x.rising }

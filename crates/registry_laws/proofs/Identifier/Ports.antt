@@ -44,6 +44,7 @@ use Rattle.orch_flight.specs.Taking.{IsTook, names_after, now_after, operation_b
 use Rattle.registry_laws.specs.Answering.{IsOfGroup}
 use Rattle.registry_laws.specs.Flown.{flight_of}
 use Rattle.registry_laws.specs.Identified.{HoldsPort, PortsStand}
+use Rattle.registry_laws.proofs.Going.{none_new}
 
 -- ---- what is told by a name
 
@@ -182,7 +183,7 @@ module _ (plan : Ports) (is : IsPlan plan) (workers : ℕ) (capacities : List �
     set_holds u e set p h some = absurd (no_port u (λ r same. cc) set p h)
 
     take_apart : (n : ThingName) (p : PortThing) → (f.new ≡ None → ⊥) → Goes plan (flight_of f) n → n ≡ name_of (thing.Port p) → ⊥
-    take_apart n p some (inl (of, none)) e = some none
+    take_apart n p some (inl (of, goes)) e = some (none_new f.new goes)
     take_apart n p some (inr (o, of, retires)) e =
         let was = kept.sound.board.left x.next.worker (flight_of f) o flying retires in
         let m = mapped (λ q. owner.OfRow (key.Port q)) (port_named plan (first_lane p.lanes)) o (subst (λ l. IsOwnedBy plan l o) e of) in
