@@ -1,5 +1,5 @@
 // The operations by key.
-ghost use Rattle.std.specs.Prelude.{◌≡◌, ◌<◌, ◌^◌, [], length, Some, None, option_map, is_some, if◌then◌else◌, IfOk, OnOk, OnErr};
+ghost use Rattle.std.specs.Prelude.{◌≡◌, ◌<◌, ◌^◌, [], ◌++◌, length, Some, None, option_map, is_some, if◌then◌else◌, IfOk, OnOk, OnErr};
 ghost use Rattle.std.specs.List.Sorted.{IsStrictlySortedBy};
 ghost use Rattle.std.specs.Map.{keys_of};
 ghost use Rattle.std.specs.Ordering.{eq_by_cmp};
@@ -7,13 +7,12 @@ ghost use Rattle.std.specs.Set.{is_member};
 ghost use Rattle.table_schema.specs.Key.{key_cmp};
 ghost use Rattle.table_schema.specs.declared.key.Key.{Key};
 ghost use Rattle.table_schema.specs.declared.write.Write.TheVariants as write;
-ghost use Rattle.row_maps.specs.Entries.{lent_key};
 ghost use Rattle.consumer_table.specs.Ops.{AreOpsInOrder, first_in, keys_behind, op_at, op_with_set, ops_after, ops_with, without_op};
 ghost use Rattle.consumer_table.specs.declared.op.Op.TheVariants as op;
 
 use crate::Op;
+use late_maps::LateMap;
 use producer_table::KeyOp;
-use row_maps::{KeyIn, RowMap};
 use std::alloc::Global;
 use std::marker::Model;
 use swss_types::OutOfMemory;
@@ -23,7 +22,7 @@ use table_schema::{Fields, Key};
 /// In SONiC's words, a consumer's map of keys to sync.
 #[derive(Debug, Drop)]
 pub struct ToSync {
-    ops: RowMap<Op>,
+    ops: LateMap<Key, Op>,
     alloc: Global,
 }
 
@@ -58,7 +57,7 @@ impl Op {
 }
 
 /// Merges fields into the operation of a key, and tells whether it had one.
-fn lay(ops: &mut RowMap<Op>, key: Key, fields: Fields) -> Result<bool, OutOfMemory>
+fn lay(ops: &mut LateMap<Key, Op>, key: Key, fields: Fields) -> Result<bool, OutOfMemory>
     ensures ok { OnOk result (ops.new ≡ ops_after ops.old (write.Set key fields)) }
     ensures there { IfOk result (λ there. there ≡ is_some (op_at ops.old key)) }
     ensures err { OnErr result (ops.new ≡ ops.old) }
@@ -76,7 +75,7 @@ fn lay(ops: &mut RowMap<Op>, key: Key, fields: Fields) -> Result<bool, OutOfMemo
 }
 
 /// Adds what was popped of a key, and tells whether it had an operation.
-fn add(ops: &mut RowMap<Op>, op: KeyOp) -> Result<bool, OutOfMemory>
+fn add(ops: &mut LateMap<Key, Op>, op: KeyOp) -> Result<bool, OutOfMemory>
     ensures ok { OnOk result (ops.new ≡ ops_with ops.old op) }
     ensures there { IfOk result (λ there. there ≡ is_some (op_at ops.old op.key)) }
     ensures err { OnErr result (ops.new ≡ ops.old) }
@@ -100,13 +99,23 @@ fn add(ops: &mut RowMap<Op>, op: KeyOp) -> Result<bool, OutOfMemory>
     }
 }
 
+/// Appends the keys of a map, in order.
+fn push_keys(keys: &mut Vec<Key>, ops: &LateMap<Key, Op>) -> Result<(), OutOfMemory>
+    ensures { OnOk result (keys.new.items ≡ keys.old.items ++ keys_of ops.now) }
+{
+    for (key, _) in ops.iter() {
+        keys.push(key.copy()?)?;
+    }
+    Ok(())
+}
+
 impl ToSync {
     /// No key.
     pub fn new(alloc: Global) -> ToSync
         ensures { result ≡ [] }
     {
         ToSync {
-            ops: RowMap::new(alloc),
+            ops: LateMap::new(alloc),
             alloc,
         }
     }
@@ -117,7 +126,7 @@ impl ToSync {
         ensures order { IfOk result (λ to_sync. AreOpsInOrder to_sync) }
     {
         let alloc = *keys.allocator();
-        let mut ops = RowMap::new(alloc);
+        let mut ops = LateMap::new(alloc);
         for key in keys {
             ops.insert(key, Op::Set(Fields::new(alloc)))?;
         }
@@ -178,12 +187,14 @@ impl ToSync {
         ensures keys { IfOk result (λ keys. keys.items ≡ keys_of self.now) }
         ensures rise { IfOk result (λ keys. IsStrictlySortedBy key_cmp keys.items) }
     {
-        self.ops.keys()
+        let mut keys = Vec::with_capacity(self.alloc, self.ops.len())?;
+        push_keys(&mut keys, &self.ops)?;
+        Ok(keys)
     }
 
     /// The first key, in key order, behind this one, and the first of all where none is given.
-    pub fn next_key(&self, after: Option<&Key>) -> Option<KeyIn<'_>>
-        ensures { option_map lent_key result ≡ first_in (keys_behind (option_map (λ key. key.now) after.entry) (keys_of self.now)) }
+    pub fn next_key(&self, after: Option<&Key>) -> Option<&Key>
+        ensures { option_map (λ key. key.now) result ≡ first_in (keys_behind (option_map (λ key. key.now) after.entry) (keys_of self.now)) }
     {
         match after {
             Some(key) => self.key_behind(key),
@@ -192,8 +203,8 @@ impl ToSync {
     }
 
     /// The first key.
-    fn first_key(&self) -> Option<KeyIn<'_>>
-        ensures { option_map lent_key result ≡ first_in (keys_of self.now) }
+    fn first_key(&self) -> Option<&Key>
+        ensures { option_map (λ key. key.now) result ≡ first_in (keys_of self.now) }
     {
         match self.ops.first() {
             Some((key, _)) => Some(key),
@@ -202,9 +213,9 @@ impl ToSync {
     }
 
     /// The first key behind this one.
-    fn key_behind(&self, key: &Key) -> Option<KeyIn<'_>>
-        ensures { option_map lent_key result ≡ first_in (keys_behind (Some key.now) (keys_of self.now)) }
+    fn key_behind(&self, key: &Key) -> Option<&Key>
+        ensures { option_map (λ key. key.now) result ≡ first_in (keys_behind (Some key.now) (keys_of self.now)) }
     {
-        self.ops.key_behind(key)
+        self.ops.behind(key)
     }
 }

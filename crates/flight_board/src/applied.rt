@@ -2,7 +2,7 @@
 ghost use Rattle.std.specs.Prelude.{◌≡◌, [], None, Some, IsSome, IsTrue, IfOk, OnOk, OnErr, ◌↔◌, option_copied, option_map};
 ghost use Rattle.flight_board.specs.Applied.{HasPlace, HasSameRows, KeepsOthers, SetsPlace, place_at, row_at};
 
-use row_maps::RowMap;
+use late_maps::LateMap;
 use std::alloc::Global;
 use std::marker::Model;
 use std::mem::{drop, replace};
@@ -12,7 +12,7 @@ use table_schema::{Key, Row};
 /// The applied row of each key, with places for those of keys whose operations are under way.
 #[derive(Drop)]
 pub struct AppliedRows {
-    rows: RowMap<Option<Row>>,
+    rows: LateMap<Key, Option<Row>>,
 }
 
 impl Model for AppliedRows {
@@ -29,7 +29,7 @@ impl AppliedRows {
         ensures { result ≡ [] }
     {
         AppliedRows {
-            rows: RowMap::new(alloc),
+            rows: LateMap::new(alloc),
         }
     }
 

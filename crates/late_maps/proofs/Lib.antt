@@ -2,7 +2,6 @@ pub mod Behind
 pub mod Edits
 pub mod Ends
 pub mod Kept
-pub mod Lasts
 pub mod Lents
 pub mod Nears
 pub mod Places

@@ -1,5 +1,5 @@
 -- the place of a key among entries whose keys rise
-use Rattle.std.proofs.Common.{◌≡◌, ℕ, zero, suc, ◌+◌, ◌-◌, ◌<◌, ◌≤◌, false, cond, List, [], ◌∷◌, ◌++◌, length, get_or, set, take, drop, None, Some, Result, Ok, Err, refl, sym, ap, subst, ◌∙◌, arith}
+use Rattle.std.proofs.Common.{◌≡◌, ℕ, zero, suc, ◌+◌, ◌-◌, ◌<◌, ◌≤◌, false, cond, List, [], ◌∷◌, ◌++◌, length, get_or, set, take, drop, None, Some, Result, Ok, Err, refl, sym, ap, subst, ◌∙◌, add-one, arith}
 use Rattle.std.specs.BTreeMap.{insert_entry, is_at}
 use Rattle.std.specs.Cmp.{IsTotalOrder}
 use Rattle.std.specs.List.Sorted.{IsStrictlySortedBy}
@@ -12,10 +12,10 @@ use Rattle.std.specs.Prelude.{Vec}
 use Rattle.std.specs.declared.alloc.Global.{Global}
 use Rattle.std.specs.declared.cmp.Ordering.{Ordering}
 use Rattle.std.specs.declared.cmp.Ordering.TheVariants.{Less, Equal, Greater}
-use Rattle.late_maps.specs.Chunks.{HaveRisingKeys, Chunks, IsOrderAt, IsRisingPlace, IsSpot, chunk_at, entries_of_chunks}
+use Rattle.late_maps.specs.Chunks.{AreFilled, HaveRisingKeys, Chunks, IsOrderAt, IsRisingPlace, IsSpot, chunk_at, entries_of_chunks}
 use Rattle.late_maps.specs.declared.chunks.Place.{Place}
-use Rattle.late_maps.proofs.Segments.{AllAbove, AllBelow, StandsIn, StandsIn-above, StandsIn-below, StandsIn-itself}
-use Rattle.late_maps.proofs.Risings.{above-all, above-past, above-with, an_entry, below-all, below-chunk, below-chunks, below-to, below-with, chunk_at-read, last-within, parted-at, rising-chunk, rising-chunk_at, some_of}
+use Rattle.late_maps.proofs.Segments.{AllAbove, AllBelow, StandsIn, StandsIn-above, StandsIn-below, StandsIn-itself, all-all_names}
+use Rattle.late_maps.proofs.Risings.{above-all, above-past, above-with, an_entry, below-all, below-chunk, below-chunks, below-to, below-with, chunk_at-read, entries_of_chunks-from, last-within, parted-at, rising-chunk, rising-chunk_at, some_of}
 
 -- another element at a place
 set-at : {A : Type 0} (xs : List A) (i : ℕ) (a : A) → i < length xs → take i xs ++ a ∷ drop (suc i) xs ≡ set xs i a
@@ -50,7 +50,13 @@ IsRisingPlace-found {K = K} {X = X} {cmp = cmp} o k es at lt rising r d is tie =
     let removed = ap (remove_entry (is_at (cmp k))) parted ∙ sym (s.removed [] (sym (ap (λ o. cond (is_eq o) [] (e ∷ [])) equal))) in
     (lt, found, put, removed, below, above, (λ x. ap (λ y. cmp k y.0) (sym (get_or_default es at d x lt)) ∙ equal), written)
 
--- where a key stands that is as one in a chunk, or between two of it, or behind the last one of all
+-- where a chunk has no entry, there is none
+pub none-behind : {A : Type 0} (cs : Chunks A) (i : ℕ) → AreFilled cs → length (chunk_at cs i) ≤ 0 → length cs ≤ i
+none-behind [] i filled none = omega arith
+none-behind (c ∷ cs) zero filled none = absurd (omega (arith, filled.0, none))
+none-behind (c ∷ cs) (suc i) filled none = let rest = none-behind cs i filled.1 none in omega (arith, rest)
+
+-- where a key stands that is as one in a chunk, or between two of it, or between two chunks, or behind the last one of all
 module _ {K X : Type 0} {cmp : K → K → Ordering} (o : IsTotalOrder cmp) (k : K) (cs : Chunks (K × X)) (rising : HaveRisingKeys cmp cs) where
   pub IsSpot-found : (place : Place) → IsOrderAt cmp cs place k Equal → IsSpot cmp cs k (record { chunk = place.chunk; at = Ok place.at })
   IsSpot-found place is =
@@ -78,6 +84,17 @@ module _ {K X : Type 0} {cmp : K → K → Ordering} (o : IsTotalOrder cmp) (k :
         up-to
         (above-all o k cs place.chunk is.0 rising (place.at + 1) is.1 Less d (is.2 d) refl)
         (above-with o k (chunk_at cs place.chunk) (place.at + 1) is.1 (rising-chunk_at o k cs place.chunk is.0 rising) Less d (is.2 d) refl)
+
+    pub IsSpot-before : length (chunk_at cs place.chunk) ≤ place.at + 1 → IsOrderAt cmp cs (record { chunk = place.chunk + 1; at = 0 }) k Less → IsSpot cmp cs k (record { chunk = place.chunk; at = Err (place.at + 1) })
+    IsSpot-before end is =
+        let i = place.chunk + 1 in
+        let d = some_of (chunk_at cs i) is.1 in
+        let first = above-with o k (chunk_at cs i) 0 is.1 (rising-chunk_at o k cs i is.0 rising) Less d (is.2 d) refl in
+        let others = above-all o k cs i is.0 rising 0 is.1 Less d (is.2 d) refl in
+        let all = all-all_names (λ x. cmp k x ≡ Less) (chunk_at cs i) (entries_of_chunks (drop (suc i) cs)) first others in
+        up-to
+        (subst (AllAbove cmp k) (sym (ap (λ j. entries_of_chunks (drop j cs)) (sym (add-one place.chunk)) ∙ entries_of_chunks-from cs i is.0)) all)
+        (subst (AllAbove cmp k) (sym (drop_of_length-le (chunk_at cs place.chunk) {i = place.at + 1} end)) tt)
 
     pub IsSpot-end : length (chunk_at cs place.chunk) ≤ place.at + 1 → length cs ≤ suc place.chunk → IsSpot cmp cs k (record { chunk = place.chunk; at = Err (place.at + 1) })
     IsSpot-end end last =

@@ -112,6 +112,11 @@ module _ {A : Type 0} where
   entries_of_chunks-at (c ∷ cs) zero lt = refl
   entries_of_chunks-at (c ∷ cs) (suc i) lt = ap (λ l. c.items ++ l) (entries_of_chunks-at cs i (omega arith)) ∙ sym (append_assoc c.items (entries_of_chunks (take i cs)) (chunk_at cs i ++ entries_of_chunks (drop (suc i) cs)))
 
+  pub entries_of_chunks-from : (cs : Chunks A) (i : ℕ) → i < length cs → entries_of_chunks (drop i cs) ≡ chunk_at cs i ++ entries_of_chunks (drop (suc i) cs)
+  entries_of_chunks-from [] i lt = absurd (omega arith)
+  entries_of_chunks-from (c ∷ cs) zero lt = refl
+  entries_of_chunks-from (c ∷ cs) (suc i) lt = entries_of_chunks-from cs i (omega arith)
+
   pub entries_of_chunks-more : (cs : Chunks A) (i : ℕ) → i < length cs → entries_of_chunks (take (suc i) cs) ≡ entries_of_chunks (take i cs) ++ chunk_at cs i
   entries_of_chunks-more [] i lt = absurd (omega arith)
   entries_of_chunks-more (c ∷ cs) zero lt = append-nil c.items

@@ -8,6 +8,6 @@ use Rattle.std.specs.declared.cmp.Ordering.{Ordering}
 use Rattle.late_maps.specs.contracts.late_map.LateMap.{the_row}
 
 -- the key that the query finds has the last value written through r, and at `None` all stays as it is
-abbrev pub lends_value : (K V : RattleType) (g : OrdMembers K.Denot) → MutBor (List (K.Denot × V.Denot)) → (K.Denot → Ordering) → Option (MutBor V.Denot) → Fml
-lends_value K V g m compare r =
-    LendsSo (the_row K V (record { cmp = g.cmp }) (record { eq = g.eq }) (record { partial_cmp = g.partial_cmp })) V m r (λ new w. new ≡ set_value (is_at compare) m.now w) (λ new. new ≡ m.now)
+abbrev pub lends_value : (K V N : RattleType) (g : OrdMembers K.Denot) → MutBor (List (K.Denot × V.Denot)) → (K.Denot → Ordering) → Option (MutBor V.Denot) → Fml
+lends_value K V N g m compare r =
+    LendsSo (the_row K V N (record { cmp = g.cmp }) (record { eq = g.eq }) (record { partial_cmp = g.partial_cmp })) V m r (λ new w. new ≡ set_value (is_at compare) m.now w) (λ new. new ≡ m.now)

@@ -1,5 +1,5 @@
 // Entries in chunks.
-ghost use Rattle.std.specs.Prelude.{◌≡◌, ◌-◌, ◌<◌, ◌≤◌, ◌↔◌, ◌++◌, ◌∷◌, [], false, suc, IsTrue, IfOk, IfErr, IfSome, IfNone, OnOk, OnErr, length, take, drop, slice_index_or, slice_set};
+ghost use Rattle.std.specs.Prelude.{◌≡◌, ◌+◌, ◌-◌, ◌<◌, ◌≤◌, ◌↔◌, ◌++◌, ◌∷◌, [], false, suc, IsTrue, IfOk, IfErr, IfSome, IfNone, OnOk, OnErr, length, take, drop, slice_index_or, slice_set};
 ghost use Rattle.std.specs.List.{AllByRecursion, insert, remove};
 ghost use Rattle.std.specs.List.Sorted.{IsStrictlySortedBy};
 ghost use Rattle.std.specs.Map.{keys_of};
@@ -12,7 +12,7 @@ use std::cmp::Ordering;
 use std::mem::replace;
 
 /// How many entries a chunk has at most, but for want of memory.
-const CHUNK: usize = 32;
+const CHUNK: usize = 16;
 
 /// Entries in chunks, of which none is empty.
 pub(crate) type Chunks<K, V> = Vec<Vec<(K, V)>>;
@@ -28,7 +28,7 @@ pub(crate) struct Spot {
 
 /// A place in chunks.
 #[derive(Clone, Copy, Debug)]
-pub(crate) struct Place {
+pub struct Place {
     /// The place of the chunk.
     pub(crate) chunk: usize,
     /// The place in the chunk.
@@ -36,7 +36,7 @@ pub(crate) struct Place {
 }
 
 /// Where a key stands, or is to be put. It is first looked for near the place where a key was found last, which is noted
-/// anew: what is sought once more, or in key order, is found at once.
+/// anew, or that of the key before it where it is not there: what is sought once more, or in key order, is found at once.
 pub(crate) fn spot_of<K: Ord, V>(chunks: &[Vec<(K, V)>], near: &Cell<Place>, key: &K) -> Spot
     requires { HaveRisingKeys K.cmp chunks.now }
     ensures { IsSpot K.cmp chunks.now key.now result }
@@ -47,7 +47,7 @@ pub(crate) fn spot_of<K: Ord, V>(chunks: &[Vec<(K, V)>], near: &Cell<Place>, key
     };
     let at = match spot.at {
         Ok(at) => at,
-        Err(at) => at,
+        Err(at) => at.saturating_sub(1),
     };
     near.set(Place {
         chunk: spot.chunk,
@@ -56,7 +56,8 @@ pub(crate) fn spot_of<K: Ord, V>(chunks: &[Vec<(K, V)>], near: &Cell<Place>, key
     spot
 }
 
-/// Where a key stands, or is to be put, where that is told by the entry at a place and the next one of its chunk.
+/// Where a key stands, or is to be put, where that is told by the entry at a place and the next one.
+#[inline(always)]
 fn spot_near<K: Ord, V>(chunks: &[Vec<(K, V)>], near: Place, key: &K) -> Option<Spot>
     requires { HaveRisingKeys K.cmp chunks.now }
     ensures { IfSome result (IsSpot K.cmp chunks.now key.now) }
@@ -71,8 +72,8 @@ fn spot_near<K: Ord, V>(chunks: &[Vec<(K, V)>], near: Place, key: &K) -> Option<
     }
 }
 
-/// Where a key stands, or is to be put, that is greater than the one at a place, where that is told by the next one of its
-/// chunk.
+/// Where a key stands, or is to be put, that is greater than the one at a place, where that is told by the next one.
+#[inline(always)]
 fn spot_past<K: Ord, V>(chunks: &[Vec<(K, V)>], near: Place, key: &K) -> Option<Spot>
     requires rising { HaveRisingKeys K.cmp chunks.now }
     requires past { IsOrderAt K.cmp chunks.now near key.now Greater }
@@ -92,20 +93,40 @@ fn spot_past<K: Ord, V>(chunks: &[Vec<(K, V)>], near: Place, key: &K) -> Option<
             at: Ok(next.at),
         }),
         Some(Ordering::Greater) => None,
-        None => {
-            if next.chunk + 1 == chunks.len() {
-                Some(Spot {
-                    chunk: next.chunk,
-                    at: Err(next.at),
-                })
-            } else {
-                None
-            }
-        }
+        None => spot_over(chunks, near, key),
+    }
+}
+
+/// Where a key stands, or is to be put, that is greater than the last one of a chunk, where that is told by the first one of
+/// the next chunk.
+#[inline(always)]
+fn spot_over<K: Ord, V>(chunks: &[Vec<(K, V)>], last: Place, key: &K) -> Option<Spot>
+    requires rising { HaveRisingKeys K.cmp chunks.now }
+    requires past { IsOrderAt K.cmp chunks.now last key.now Greater }
+    requires last { length (chunk_at chunks.now last.chunk) ≤ last.at + 1 }
+    ensures { IfSome result (IsSpot K.cmp chunks.now key.now) }
+{
+    let next = Place {
+        chunk: last.chunk + 1,
+        at: 0,
+    };
+    let end = Spot {
+        chunk: last.chunk,
+        at: Err(last.at + 1),
+    };
+    match order_at(chunks, next, key) {
+        Some(Ordering::Less) => Some(end),
+        Some(Ordering::Equal) => Some(Spot {
+            chunk: next.chunk,
+            at: Ok(next.at),
+        }),
+        Some(Ordering::Greater) => None,
+        None => Some(end),
     }
 }
 
 /// How a key compares to the one at a place: None where there is none.
+#[inline(always)]
 fn order_at<K: Ord, V>(chunks: &[Vec<(K, V)>], place: Place, key: &K) -> Option<Ordering>
     ensures some { IfSome result (IsOrderAt K.cmp chunks.now place key.now) }
     ensures none { IfNone result (length (chunk_at chunks.now place.chunk) ≤ place.at) }
@@ -147,6 +168,7 @@ fn far_spot<K: Ord, V>(chunks: &[Vec<(K, V)>], key: &K) -> Spot
 }
 
 /// How a key compares to the last one of a chunk.
+#[inline(always)]
 fn order_at_end<K: Ord, V>(chunk: &[(K, V)], key: &K) -> Ordering
     requires { 0 < length chunk.now }
     ensures { (d : K × V) → result ≡ K.cmp key.now (slice_index_or chunk.now (length chunk.now - 1) d).0 }
@@ -225,7 +247,7 @@ pub(crate) fn put<K, V>(
     }
     match chunks[chunk].insert(at, entry) {
         Ok(()) => {
-            halve(chunks, chunk);
+            part(chunks, chunk, at);
             Ok(())
         }
         Err(failed) => Err(failed),
@@ -286,8 +308,8 @@ fn empty_chunk<E>(alloc: Global, first: bool) -> Result<Vec<E>, AllocError>
     }
 }
 
-/// Halves a chunk that has too many entries, where memory is there for it.
-fn halve<K, V>(chunks: &mut Chunks<K, V>, chunk: usize)
+/// Parts a chunk that has too many entries, of which one was put at a place just now, where memory is there for it.
+fn part<K, V>(chunks: &mut Chunks<K, V>, chunk: usize, at: usize)
     requires filled { AreFilled chunks.old.items }
     requires chunk { chunk < length chunks.old.items }
     ensures entries { entries_of_chunks chunks.new.items ≡ entries_of_chunks chunks.old.items }
@@ -297,13 +319,23 @@ fn halve<K, V>(chunks: &mut Chunks<K, V>, chunk: usize)
     if len <= CHUNK || chunks.reserve(1).is_err() {
         return;
     }
-    match chunks[chunk].split_off(len / 2) {
+    match chunks[chunk].split_off(parting(len, at)) {
         Ok(upper) => match chunks.insert(chunk + 1, upper) {
             Ok(()) => {}
             Err(_) => unreachable!(),
         },
         Err(_) => {}
     }
+}
+
+/// Where a chunk is parted: in its midst, and before its last entry where that was put there just now, so that keys that come
+/// in their order fill the chunks.
+fn parting(len: usize, at: usize) -> usize
+    requires { 1 < len }
+    ensures some { 0 < result }
+    ensures less { result < len }
+{
+    if at == len - 1 { at } else { len / 2 }
 }
 
 /// Takes the entry at a place out.

@@ -9,10 +9,9 @@ ghost use Rattle.std.specs.Map.{keys_of, lookup, remove_entry};
 ghost use Rattle.std.specs.Map.Iter.{ShowsInOrder, deref_pair};
 ghost use Rattle.std.specs.Option.{option_copied_mut};
 
-use crate::Iter;
 use crate::chunks::{Chunks, Place, put, set, spot_of, take};
+use crate::{Iter, Near, OneNear};
 use std::alloc::{AllocFailed, Global};
-use std::cell::Cell;
 use std::fmt;
 use std::marker::Model;
 
@@ -22,15 +21,15 @@ const MOST: usize = 9_223_372_036_854_775_807;
 /// A map whose search begins where a key was found last, and then at its greatest key, so that what comes in key order, or
 /// is sought once more, is put and found at once. It is otherwise as `BTreeMap`.
 #[derive(Drop)]
-pub struct LateMap<K: Ord, V> {
+pub struct LateMap<K: Ord, V, N = OneNear> {
     alloc: Global,
     chunks: Chunks<K, V>,
     count: usize,
     // where a key was found or put last: the next one is looked for there first
-    near: Cell<Place>,
+    near: N,
 }
 
-impl<K: Ord, V> Model for LateMap<K, V> {
+impl<K: Ord, V, N> Model for LateMap<K, V, N> {
     ghost use Rattle.std.specs.Prelude.{◌≡◌, ◌<◌, ◌^◌, List, length};
     ghost use Rattle.late_maps.specs.Chunks.{HaveRisingKeys, entries_of_chunks};
 
@@ -41,16 +40,16 @@ impl<K: Ord, V> Model for LateMap<K, V> {
     ghost invariant = { λ m. HaveRisingKeys K.cmp m.chunks.items × (m.count ≡ length (entries_of_chunks m.chunks.items)) × (m.count < 2 ^ 63) };
 }
 
-impl<K: Ord, V> LateMap<K, V> {
+impl<K: Ord, V, N: Near<K>> LateMap<K, V, N> {
     /// An empty map.
-    pub fn new(alloc: Global) -> LateMap<K, V>
+    pub fn new(alloc: Global) -> LateMap<K, V, N>
         ensures { result ≡ [] }
     {
         LateMap {
             alloc,
             chunks: Vec::new(alloc),
             count: 0,
-            near: Cell::new(Place { chunk: 0, at: 0 }),
+            near: N::new(),
         }
     }
 
@@ -100,14 +99,17 @@ impl<K: Ord, V> LateMap<K, V> {
     }
 }
 
-impl<K: Ord, V> LateMap<K, V> {
+impl<K: Ord, V, N: Near<K>> LateMap<K, V, N> {
     ghost use Rattle.late_maps.specs.Lent.{lends_value};
 
     /// The value of a key. A key that is the greatest, or behind all keys, is found at once.
     pub fn get(&self, key: &K) -> Option<&V>
         ensures { option_copied result ≡ lookup (is_at (K.cmp key.now)) self.now }
     {
-        let spot = spot_of(self.chunks.as_slice(), &self.near, key);
+        if self.count == 0 {
+            return None;
+        }
+        let spot = spot_of(self.chunks.as_slice(), self.near.of(key), key);
         match spot.at {
             Ok(at) => Some(&self.chunks[spot.chunk][at].1),
             Err(_) => None,
@@ -123,11 +125,11 @@ impl<K: Ord, V> LateMap<K, V> {
 
     /// The value of a key, to be changed.
     pub fn get_mut(&mut self, key: &K) -> Option<&mut V>
-        ensures* writes_back { sem 𝓛 (lends_value K.row V.row K.Ord self.entry (K.cmp key.now) result) }
+        ensures* writes_back { sem 𝓛 (lends_value K.row V.row N.row K.Ord self.entry (K.cmp key.now) result) }
         ensures value { option_copied_mut result ≡ lookup (is_at (K.cmp key.now)) self.old }
         ensures ordered { IsStrictlySortedBy K.cmp (keys_of self.old) }
     {
-        let spot = spot_of(self.chunks.as_slice(), &self.near, key);
+        let spot = spot_of(self.chunks.as_slice(), self.near.of(key), key);
         match spot.at {
             Ok(at) => match self.chunks.get_mut(spot.chunk) {
                 Some(chunk) => match chunk.get_mut(at) {
@@ -158,7 +160,8 @@ impl<K: Ord, V> LateMap<K, V> {
         ensures ordered { IsStrictlySortedBy K.cmp (keys_of self.new) }
         ensures was_ordered { IsStrictlySortedBy K.cmp (keys_of self.old) }
     {
-        let spot = spot_of(self.chunks.as_slice(), &self.near, &key);
+        let near = self.near.of(&key);
+        let spot = spot_of(self.chunks.as_slice(), near, &key);
         match spot.at {
             Ok(at) => Ok(Some(set(&mut self.chunks, spot.chunk, at, value))),
             Err(at) => {
@@ -170,6 +173,10 @@ impl<K: Ord, V> LateMap<K, V> {
                 match put(self.alloc, &mut self.chunks, spot.chunk, at, (key, value)) {
                     Ok(()) => {
                         self.count += 1;
+                        near.set(Place {
+                            chunk: spot.chunk,
+                            at,
+                        });
                         Ok(None)
                     }
                     Err(failed) => Err(failed),
@@ -183,7 +190,7 @@ impl<K: Ord, V> LateMap<K, V> {
         ensures { option_map (λ found. found.now) result ≡ slice_get (filter (λ other. is_lt (K.cmp key.now other)) (keys_of self.now)) 0 }
     {
         let chunks = self.chunks.as_slice();
-        let spot = spot_of(chunks, &self.near, key);
+        let spot = spot_of(chunks, self.near.of(key), key);
         let at = match spot.at {
             Ok(at) => at + 1,
             Err(at) => at,
@@ -209,7 +216,7 @@ impl<K: Ord, V> LateMap<K, V> {
         ensures ordered { IsStrictlySortedBy K.cmp (keys_of self.new) }
         ensures len { length self.new + (if is_some result then 1 else 0) ≡ length self.old }
     {
-        let spot = spot_of(self.chunks.as_slice(), &self.near, key);
+        let spot = spot_of(self.chunks.as_slice(), self.near.of(key), key);
         match spot.at {
             Ok(at) => {
                 self.count -= 1;
@@ -221,7 +228,7 @@ impl<K: Ord, V> LateMap<K, V> {
     }
 }
 
-impl<K: Ord + fmt::Debug, V: fmt::Debug> fmt::Debug for LateMap<K, V> {
+impl<K: Ord + fmt::Debug, V: fmt::Debug, N: Near<K>> fmt::Debug for LateMap<K, V, N> {
     fn fmt<W: fmt::Write>(&self, f: &mut fmt::Formatter<W>) -> fmt::Result {
         let mut out = f.debug_map();
         for (key, value) in self.iter() {

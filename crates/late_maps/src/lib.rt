@@ -3,9 +3,10 @@
 
 mod chunks;
 mod iter;
-mod late;
 mod late_map;
+mod near;
 
+pub use chunks::Place;
 pub use iter::Iter;
-pub use late::get_late;
 pub use late_map::LateMap;
+pub use near::{Near, OneNear};

@@ -1,7 +1,6 @@
 // What the core has its parts do: each call is one of the board, of syncd or of the tables, and the rest of the core stays.
 ghost use Rattle.std.specs.Prelude.{◌≡◌, ◌<◌, ◌^◌, ◌↔◌, ◌⊎◌, [], length, None, Some, IsSome, IsTrue, IfOk, OnOk, OnErr, option_map};
 ghost use Rattle.std.specs.Map.{keys_of};
-ghost use Rattle.row_maps.specs.Entries.{lent_key};
 ghost use Rattle.producer_table.specs.Pending.{ArePendingInOrder};
 ghost use Rattle.consumer_table.specs.Ops.{AreOpsInOrder, first_in, keys_behind};
 ghost use Rattle.retry_list.specs.Reasons.{reason_at, with_reason};
@@ -17,7 +16,6 @@ ghost use Rattle.session_laws.specs.Core.{good_in};
 ghost use Rattle.orch_core.specs.Outcomes.{key_left};
 
 use crate::Core;
-use row_maps::KeyIn;
 use sai_types::{Call, Chip, SyncAnswer, Vid};
 use switch_model::Wait;
 use swss_types::OutOfMemory;
@@ -122,21 +120,13 @@ impl Core {
         self.waiting.put(key, wait)
     }
 
-    /// The first key to sync behind this one. The keys are in order.
-    pub(crate) fn next_key(&self, after: Option<&Key>) -> Option<KeyIn<'_>>
-        ensures next { option_map lent_key result ≡ first_in (keys_behind (option_map (λ key. key.now) after.entry) (keys_of self.now.tables.ops)) }
-        ensures order { AreOpsInOrder self.now.tables.ops }
-    {
-        self.tables.next_key(after)
-    }
-
     /// A copy of the first key to sync behind this one. The keys are in order.
     pub(crate) fn key_behind(&self, after: Option<&Key>) -> Result<Option<Key>, OutOfMemory>
         ensures next { IfOk result (λ next. next ≡ first_in (keys_behind (option_map (λ key. key.now) after.entry) (keys_of self.now.tables.ops))) }
         ensures order { AreOpsInOrder self.now.tables.ops }
     {
-        match self.next_key(after) {
-            Some(key) => Ok(Some(key.into_key()?)),
+        match self.tables.next_key(after) {
+            Some(key) => Ok(Some(key.copy()?)),
             None => Ok(None),
         }
     }

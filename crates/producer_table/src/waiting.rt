@@ -2,12 +2,11 @@
 ghost use Rattle.std.specs.Prelude.{◌≡◌, ◌⊎◌, ◌↔◌, [], ◌∷◌, take, drop, IsTrue, IfOk, IfSome, IfNone, OnOk, OnErr, option_map, slice_get};
 ghost use Rattle.table_schema.specs.declared.write.Write.TheVariants as write;
 ghost use Rattle.table_schema.specs.declared.key.Key.{Key};
-ghost use Rattle.row_maps.specs.Entries.{lent_key};
 ghost use Rattle.producer_table.specs.declared.waiting.Pending.{Pending};
 ghost use Rattle.producer_table.specs.Pending.{ArePendingInOrder, laid_over, nothing_pending, op_of, ops_of, pending_after};
 
 use crate::KeyOp;
-use row_maps::{KeyIn, RowMap};
+use late_maps::LateMap;
 use std::alloc::Global;
 use std::marker::Model;
 use swss_types::OutOfMemory;
@@ -26,7 +25,7 @@ pub struct Pending {
 /// a producer table with its temporary fields, its set of keys and its set of deleted keys.
 #[derive(Debug, Drop)]
 pub struct Waiting {
-    keys: RowMap<Pending>,
+    keys: LateMap<Key, Pending>,
     alloc: Global,
 }
 
@@ -70,7 +69,7 @@ impl Pending {
 }
 
 /// Merges fields into those that wait of a key.
-fn lay(keys: &mut RowMap<Pending>, key: Key, fields: Fields) -> Result<(), OutOfMemory>
+fn lay(keys: &mut LateMap<Key, Pending>, key: Key, fields: Fields) -> Result<(), OutOfMemory>
     ensures ok { OnOk result (keys.new ≡ pending_after keys.old (write.Set key fields)) }
     ensures err { OnErr result (keys.new ≡ keys.old) }
 {
@@ -89,7 +88,7 @@ impl Waiting {
         ensures { result ≡ [] }
     {
         Waiting {
-            keys: RowMap::new(alloc),
+            keys: LateMap::new(alloc),
             alloc,
         }
     }
@@ -141,8 +140,8 @@ impl Waiting {
     }
 
     /// The first key with what waits of it: None exactly where nothing waits.
-    pub fn first(&self) -> Option<(KeyIn<'_>, &Pending)>
-        ensures { option_map (λ e. (lent_key e.0, e.1.now)) result ≡ slice_get self.now 0 }
+    pub fn first(&self) -> Option<(&Key, &Pending)>
+        ensures { option_map (λ e. (e.0.now, e.1.now)) result ≡ slice_get self.now 0 }
     {
         self.keys.first()
     }

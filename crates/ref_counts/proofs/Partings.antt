@@ -21,12 +21,11 @@ use Rattle.table_schema.specs.declared.key.Key.TheVariants as key
 use Rattle.ref_counts.specs.declared.name.Name.{Name}
 use Rattle.ref_counts.specs.declared.name.Name.TheVariants as name
 use Rattle.ref_counts.specs.declared.registrations.Registrations.TheInside.{Inside}
-use Rattle.ref_counts.specs.Parted.{AreParted, IsAmongRows, IsAmongOthers, all_names, table_place_of_name, neighbor_key_cmp, neighbor_name, place_of_groups, place_of_neighbors, place_of_routes, route_name}
+use Rattle.ref_counts.specs.Parted.{AreParted, IsAmongRows, IsAmongOthers, Neighbor, all_names, table_place_of_name, neighbor_key_cmp, neighbor_name, place_of_groups, place_of_neighbors, place_of_routes, route_name}
 use Rattle.late_maps.specs.Segments.{renamed}
 use Rattle.ref_counts.specs.Registered.{Registered}
 use Rattle.ref_counts.specs.Registry.{Names, registered_name_cmp}
 use Rattle.ref_counts.proofs.Changing.{name_total}
-use Rattle.row_maps.specs.Parts.{Neighbor}
 use Rattle.late_maps.proofs.Segments.{AllAbove, AllBelow, StandsIn, StandsIn-above, StandsIn-below, StandsIn-itself, StandsIn-renamed, all-inserted, all-all_names, all-kept, all-named, all-removed, all-renamed, sorted-all_names, sorted-renamed}
 
 -- the keys that stand apart are those of the neighbours, of the routes, and of no table

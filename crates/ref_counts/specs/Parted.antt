@@ -6,11 +6,12 @@ use Rattle.std.specs.Map.{keys_of}
 use Rattle.std.specs.Ordering.{ordering_then}
 use Rattle.std.specs.declared.cmp.Ordering.{Ordering}
 use Rattle.late_maps.specs.Segments.{renamed}
-use Rattle.row_maps.specs.Parts.{Neighbor}
 use Rattle.sai_types.specs.declared.hop.Hop.{Hop}
 use Rattle.swss_types.specs.AddressOrder.{ip_cmp}
 use Rattle.swss_types.specs.NameOrder.{name_cmp}
+use Rattle.swss_types.specs.declared.address.Ip.{Ip}
 use Rattle.swss_types.specs.declared.address.Prefix.{Prefix}
+use Rattle.swss_types.specs.declared.interface.IfName.{IfName}
 use Rattle.table_schema.specs.Key.{table_place}
 use Rattle.table_schema.specs.declared.key.Key.{Key}
 use Rattle.table_schema.specs.declared.key.Key.TheVariants as key
@@ -37,6 +38,10 @@ abbrev pub table_place_of_name : Name → ℕ
 table_place_of_name (name.Row k) = table_place k
 table_place_of_name (name.Group hops) = place_of_groups
 table_place_of_name _ = 8
+
+-- a neighbour is an address on an interface
+abbrev pub Neighbor : Type 0
+Neighbor = IfName × Ip
 
 abbrev pub neighbor_name : Neighbor → Name
 neighbor_name n = name.Row (key.Neigh n.0 n.1)

@@ -7,6 +7,7 @@ mod claims;
 mod copying;
 mod laws;
 mod name;
+mod near_in_tables;
 mod next;
 mod part;
 mod pin;

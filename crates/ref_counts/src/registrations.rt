@@ -10,10 +10,10 @@ ghost use Rattle.ref_counts.specs.Parted.{IsAmongRows, IsAmongOthers, neighbor_n
 ghost use Rattle.ref_counts.specs.Registry.{registered_at, registered_name_cmp};
 
 use crate::Name;
+use crate::near_in_tables::NearInTables;
 use crate::part::{Part, into_part, part_of};
 use crate::registration::Registration;
 use late_maps::LateMap;
-use row_maps::RowMap;
 use sai_types::Hops;
 use std::alloc::Global;
 use std::marker::Model;
@@ -25,7 +25,7 @@ use table_schema::Key;
 /// stands apart, so that the others are found among few, and each by a short comparison. Rows mostly come in key order.
 #[derive(Drop)]
 pub struct Registrations {
-    rows: RowMap<Registration>,
+    rows: LateMap<Key, Registration, NearInTables>,
     neighbors: LateMap<(IfName, Ip), Registration>,
     routes: LateMap<Prefix, Registration>,
     others: LateMap<Name, Registration>,
@@ -50,7 +50,7 @@ impl Registrations {
         ensures { result ≡ [] }
     {
         Registrations {
-            rows: RowMap::new(alloc),
+            rows: LateMap::new(alloc),
             neighbors: LateMap::new(alloc),
             routes: LateMap::new(alloc),
             others: LateMap::new(alloc),

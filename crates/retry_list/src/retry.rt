@@ -8,7 +8,7 @@ ghost use Rattle.retry_list.specs.Reasons.{event_of, is_woken, left_asleep, reas
 
 use crate::Event;
 use crate::index::Index;
-use row_maps::RowMap;
+use late_maps::LateMap;
 use std::alloc::Global;
 use std::collections::BTreeSet;
 use std::marker::Model;
@@ -20,7 +20,7 @@ use table_schema::Key;
 /// The keys whose rows wait, each with its reason, in key order. What an event wakes is found without going over the others.
 #[derive(Debug, Drop)]
 pub struct Retry {
-    reasons: RowMap<Wait>,
+    reasons: LateMap<Key, Wait>,
     index: Index,
     alloc: Global,
 }
@@ -44,7 +44,7 @@ impl Retry {
         ensures { result ≡ [] }
     {
         Retry {
-            reasons: RowMap::new(alloc),
+            reasons: LateMap::new(alloc),
             index: Index::new(alloc),
             alloc,
         }
@@ -95,7 +95,7 @@ impl Retry {
     }
 
     /// The keys on the list with their reasons, in key order.
-    pub fn list(&self) -> row_maps::Iter<'_, Wait>
+    pub fn list(&self) -> late_maps::Iter<'_, Key, Wait>
         ensures rest { result ≡ self.now }
         ensures rising { HasRisingKeys key_cmp self.now }
         ensures small { length self.now < 2 ^ 63 }
@@ -108,7 +108,7 @@ impl Retry {
 
 /// Gives a key its reason, and files it under the event that this is about.
 fn put(
-    reasons: &mut RowMap<Wait>,
+    reasons: &mut LateMap<Key, Wait>,
     index: &mut Index,
     key: Key,
     wait: Wait,
@@ -141,7 +141,7 @@ fn put(
 /// Files a key under the event that a reason is about, unless it has this reason already, and gives the event with a copy of
 /// the key.
 fn file(
-    reasons: &RowMap<Wait>,
+    reasons: &LateMap<Key, Wait>,
     index: &mut Index,
     key: &Key,
     wait: &Wait,
@@ -170,7 +170,7 @@ fn file(
 
 /// Gives a key its reason, which is about this event: the key is filed under it already, and under that of its old reason.
 fn exchange(
-    reasons: &mut RowMap<Wait>,
+    reasons: &mut LateMap<Key, Wait>,
     index: &mut Index,
     key: Key,
     wait: Wait,
@@ -190,7 +190,8 @@ fn exchange(
             index.unfile_unless(&Event::of(old), event, name);
             Ok(())
         }
-        Err(_) => {
+        Err(failed) => {
+            drop(failed);
             index.unfile(event, name);
             Err(OutOfMemory)
         }
@@ -198,7 +199,7 @@ fn exchange(
 }
 
 /// Whether a key has this reason already. To put it once more changes nothing.
-fn has(reasons: &RowMap<Wait>, key: &Key, wait: &Wait) -> bool
+fn has(reasons: &LateMap<Key, Wait>, key: &Key, wait: &Wait) -> bool
     ensures same { IsTrue result → with_reason reasons.now key.now wait.now ≡ reasons.now }
     ensures other { (result ≡ false) → is_woken (event_of wait.now) (reason_at reasons.now key.now) ≡ false }
 {
@@ -211,7 +212,7 @@ fn has(reasons: &RowMap<Wait>, key: &Key, wait: &Wait) -> bool
 }
 
 /// Takes a key's reason, and the key out from under the event that this is about.
-fn forget(reasons: &mut RowMap<Wait>, index: &mut Index, key: &Key)
+fn forget(reasons: &mut LateMap<Key, Wait>, index: &mut Index, key: &Key)
     requires indexed { AreReasonsFiled reasons.old index.old }
     ensures gone { reasons.new ≡ without_reason reasons.old key.now }
     ensures indexed { AreReasonsFiled reasons.new index.new }
@@ -226,7 +227,7 @@ fn forget(reasons: &mut RowMap<Wait>, index: &mut Index, key: &Key)
 
 /// Takes keys off the list, and gives them in the room that was made for them.
 fn take_off(
-    reasons: &mut RowMap<Wait>,
+    reasons: &mut LateMap<Key, Wait>,
     keys: BTreeSet<Key>,
     room: Vec<Key>,
 ) -> Result<Vec<Key>, OutOfMemory>

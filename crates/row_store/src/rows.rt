@@ -1,12 +1,12 @@
 // The rows of the application tables.
-ghost use Rattle.std.specs.Prelude.{◌≡◌, [], length, option_map, IfOk, OnOk, OnErr};
+ghost use Rattle.std.specs.Prelude.{◌≡◌, [], ◌++◌, length, option_map, IfOk, OnOk, OnErr};
 ghost use Rattle.std.specs.BTreeMap.{insert_entry, is_at};
 ghost use Rattle.std.specs.List.{fold};
 ghost use Rattle.std.specs.Map.{keys_of, remove_entry};
 ghost use Rattle.table_schema.specs.Key.{key_cmp};
 ghost use Rattle.table_schema.specs.Rows.{HasRisingRows, after_write, fields_at, with_fields};
 
-use row_maps::{Iter, RowMap};
+use late_maps::{Iter, LateMap};
 use std::alloc::Global;
 use std::marker::Model;
 use swss_types::OutOfMemory;
@@ -15,7 +15,7 @@ use table_schema::{Fields, Key, Write};
 /// Rows by their keys: what a list of writes makes of no row.
 #[derive(Debug, Drop)]
 pub struct Rows {
-    rows: RowMap<Fields>,
+    rows: LateMap<Key, Fields>,
     alloc: Global,
 }
 
@@ -34,7 +34,7 @@ impl Rows {
         ensures { result ≡ [] }
     {
         Rows {
-            rows: RowMap::new(alloc),
+            rows: LateMap::new(alloc),
             alloc,
         }
     }
@@ -80,11 +80,13 @@ impl Rows {
     pub fn keys(&self) -> Result<Vec<Key>, OutOfMemory>
         ensures { IfOk result (λ keys. keys.items ≡ keys_of self.now) }
     {
-        self.rows.keys()
+        let mut keys = Vec::with_capacity(self.alloc, self.rows.len())?;
+        push_keys(&mut keys, &self.rows)?;
+        Ok(keys)
     }
 
     /// The rows, in key order.
-    pub fn iter(&self) -> Iter<'_, Fields>
+    pub fn iter(&self) -> Iter<'_, Key, Fields>
         ensures rest { result ≡ self.now }
         ensures rising { HasRisingRows self.now }
     {
@@ -123,12 +125,22 @@ impl Rows {
     }
 
     /// Makes each of these rows the row of its key.
-    fn replace_each(&mut self, rows: Iter<'_, Fields>) -> Result<(), OutOfMemory>
+    fn replace_each(&mut self, rows: Iter<'_, Key, Fields>) -> Result<(), OutOfMemory>
         ensures { OnOk result (self.new ≡ fold (λ rows row. insert_entry key_cmp rows row.0 row.1) self.old rows.entry) }
     {
         for (key, fields) in rows {
-            self.replace(key.key(), fields)?;
+            self.replace(key, fields)?;
         }
         Ok(())
     }
+}
+
+/// Appends the keys of a map, in order.
+fn push_keys(keys: &mut Vec<Key>, rows: &LateMap<Key, Fields>) -> Result<(), OutOfMemory>
+    ensures { OnOk result (keys.new.items ≡ keys.old.items ++ keys_of rows.now) }
+{
+    for (key, _) in rows.iter() {
+        keys.push(key.copy()?)?;
+    }
+    Ok(())
 }

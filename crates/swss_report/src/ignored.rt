@@ -1,11 +1,9 @@
 // The rows that do not read, as the report lists them.
 ghost use Rattle.std.specs.Prelude.{◌≡◌, [], ◌∷◌, ◌++◌, flat_map, length, IfOk, OnOk};
-ghost use Rattle.row_maps.specs.Entries.{lent_key};
 ghost use Rattle.swss_report.specs.Ignored.{bad_rows, field_name, ignored_line, ignored_text, ignored_why};
 
 use crate::counted::write_count;
 use crate::tables::write_key;
-use row_maps::KeyIn;
 use row_store::Rows;
 use std::alloc::Global;
 use swss_types::OutOfMemory;
@@ -51,16 +49,16 @@ fn write_if_bad(
     alloc: Global,
     out: &mut Vec<u8>,
     plan: &PortPlan,
-    key: KeyIn<'_>,
+    key: &Key,
     fields: &Fields,
 ) -> Result<u64, OutOfMemory>
-    ensures lines { OnOk result (out.new.items ≡ out.old.items ++ flat_map ignored_line (bad_rows plan.now ((lent_key key.entry, fields.now) ∷ []))) }
-    ensures count { IfOk result (λ count. count ≡ length (bad_rows plan.now ((lent_key key.entry, fields.now) ∷ []))) }
+    ensures lines { OnOk result (out.new.items ≡ out.old.items ++ flat_map ignored_line (bad_rows plan.now ((key.now, fields.now) ∷ []))) }
+    ensures count { IfOk result (λ count. count ≡ length (bad_rows plan.now ((key.now, fields.now) ∷ []))) }
 {
-    match read_row(alloc, plan, key.key(), fields)? {
+    match read_row(alloc, plan, key, fields)? {
         Ok(_) => Ok(0),
         Err(broken) => {
-            write_bad_row(alloc, out, key.key(), broken)?;
+            write_bad_row(alloc, out, key, broken)?;
             Ok(1)
         }
     }

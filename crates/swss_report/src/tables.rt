@@ -24,7 +24,7 @@ fn write_rows(alloc: Global, out: &mut Vec<u8>, rows: &Rows) -> Result<(), OutOf
     ensures { OnOk result (out.new.items ≡ out.old.items ++ flat_map row_line rows.now) }
 {
     for (key, fields) in rows.iter() {
-        write_row(alloc, out, key.key(), fields)?;
+        write_row(alloc, out, key, fields)?;
     }
     Ok(())
 }

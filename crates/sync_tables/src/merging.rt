@@ -1,6 +1,5 @@
 // How what was popped of a key is merged into the rows, and the key comes to be one to sync.
 ghost use Rattle.std.specs.Prelude.{◌≡◌, IfOk, OnOk, OnErr};
-ghost use Rattle.row_maps.specs.Entries.{lent_key};
 ghost use Rattle.producer_table.specs.Pending.{op_of};
 ghost use Rattle.consumer_table.specs.Ops.{ops_with};
 ghost use Rattle.sync_tables.specs.Tables.{IsKeptOrLaid, IsMerged};
@@ -8,29 +7,13 @@ ghost use Rattle.sync_tables.specs.Tables.{IsKeptOrLaid, IsMerged};
 use crate::read_rows::ReadRows;
 use consumer_table::ToSync;
 use producer_table::{KeyOp, Pending};
-use row_maps::KeyIn;
 use row_store::Rows;
 use swss_types::OutOfMemory;
 use table_schema::Key;
 
-/// Takes in what waited of the first key that waits, as it stands there.
-pub(crate) fn take_first(
-    rows: &mut ReadRows,
-    to_sync: &mut ToSync,
-    key: KeyIn<'_>,
-    pending: &Pending,
-) -> Result<(), OutOfMemory>
-    ensures merged { OnOk result (IsMerged rows.old (lent_key key.entry) pending.now rows.new) }
-    ensures added { OnOk result (to_sync.new ≡ ops_with to_sync.old (op_of (lent_key key.entry, pending.now))) }
-    ensures err { OnErr result (rows.new ≡ rows.old) }
-    ensures kept { OnErr result (IsKeptOrLaid to_sync.old (lent_key key.entry, pending.now) to_sync.new) }
-{
-    take_in(rows, to_sync, key.key(), pending)
-}
-
 /// Takes in what waited of a key: it is merged into its row, and added to the key's operation. After want of memory the rows
 /// are as they were, and so are the operations, but that what waits may be added to one that was there.
-fn take_in(
+pub(crate) fn take_in(
     rows: &mut ReadRows,
     to_sync: &mut ToSync,
     key: &Key,

@@ -7,8 +7,8 @@ ghost use Rattle.sync_tables.specs.ReadRows.{IsKeyForgotten, is_plan_free};
 ghost use Rattle.sync_tables.specs.Tables.{IsMerged};
 
 use crate::merging::merge;
+use late_maps::LateMap;
 use producer_table::Pending;
-use row_maps::RowMap;
 use row_store::Rows;
 use std::alloc::Global;
 use std::marker::Model;
@@ -20,7 +20,7 @@ use table_schema::{Key, PortPlan, Row, read_row};
 #[derive(Debug, Drop)]
 pub(crate) struct ReadRows {
     rows: Rows,
-    read: RowMap<Row>,
+    read: LateMap<Key, Row>,
 }
 
 impl Model for ReadRows {
@@ -41,7 +41,7 @@ impl ReadRows {
     {
         ReadRows {
             rows: Rows::new(alloc),
-            read: RowMap::new(alloc),
+            read: LateMap::new(alloc),
         }
     }
 
@@ -104,7 +104,7 @@ impl ReadRows {
 }
 
 /// Takes a key's row out of those that were read.
-fn forget(read: &mut RowMap<Row>, key: &Key)
+fn forget(read: &mut LateMap<Key, Row>, key: &Key)
     ensures { IsKeyForgotten read.old key.now read.new }
 {
     // It says that the keys are in order.

@@ -5,19 +5,17 @@ ghost use Rattle.std.specs.Map.{keys_of};
 ghost use Rattle.table_schema.specs.Rows.{fields_at};
 ghost use Rattle.table_schema.specs.declared.key.Key.{Key};
 ghost use Rattle.table_schema.specs.declared.write.Write.TheVariants as write;
-ghost use Rattle.row_maps.specs.Entries.{lent_key};
 ghost use Rattle.switch_model.specs.Good.{good_row};
 ghost use Rattle.producer_table.specs.Pending.{ArePendingInOrder};
 ghost use Rattle.consumer_table.specs.Ops.{AreOpsInOrder, first_in, keys_behind, without_op};
 ghost use Rattle.sync_tables.specs.Tables.{IsToSync, PopsBatch, PopsInPart, PopsKeys, PopsNone, PopsSome, no_tables, tables_with_write};
 ghost use Rattle.sync_tables.specs.declared.tables.TheConstants.{BATCH};
 
-use crate::merging::take_first;
+use crate::merging::take_in;
 use crate::read_rows::ReadRows;
 use crate::rows::keys_of_rows;
 use consumer_table::ToSync;
 use producer_table::Waiting;
-use row_maps::KeyIn;
 use row_store::Rows;
 use std::alloc::Global;
 use std::marker::Model;
@@ -123,7 +121,7 @@ impl Tables {
         let Some((key, pending)) = self.waiting.first() else {
             return Ok(false);
         };
-        take_first(&mut self.rows, &mut self.to_sync, key, pending)?;
+        take_in(&mut self.rows, &mut self.to_sync, key, pending)?;
         self.waiting.pop_first();
         Ok(true)
     }
@@ -143,8 +141,8 @@ impl Tables {
 
     /// The first key to sync, in key order, behind this one, and the first of all where none is given. The keys are in order,
     /// as `AreOpsInOrder` says.
-    pub fn next_key(&self, after: Option<&Key>) -> Option<KeyIn<'_>>
-        ensures key { option_map lent_key result ≡ first_in (keys_behind (option_map (λ key. key.now) after.entry) (keys_of self.now.ops)) }
+    pub fn next_key(&self, after: Option<&Key>) -> Option<&Key>
+        ensures key { option_map (λ key. key.now) result ≡ first_in (keys_behind (option_map (λ key. key.now) after.entry) (keys_of self.now.ops)) }
         ensures order { AreOpsInOrder self.now.ops }
     {
         let _order = self.to_sync.len();

@@ -205,7 +205,7 @@ fn look(rt: &impl Abort, retry: &Retry, listed: Listed) {
     let mut list = retry.list();
     for (vlan, why) in listed {
         let (key, wait) = list.next().expect(rt, "a key");
-        assert!(rt; is_vlan(key.key(), *vlan), "{key:?} and {vlan}");
+        assert!(rt; is_vlan(key, *vlan), "{key:?} and {vlan}");
         assert!(rt; is_why(wait, *why), "{vlan} {wait:?}");
     }
     assert!(rt; list.next().is_none(), "no more");

@@ -8,6 +8,6 @@ use Rattle.consumer_table.proofs.to_sync.add.Goals as goal
 pub returns-in_ok-was-in-true-Some-clause-ok : goal.returns-in_ok-was-in-true-Some-clause-ok
 returns-in_ok-was-in-true-Some-clause-ok c =
     let ops = c.args.ops.now in
-    c.in_ok-was-in-true-Some.ensures.ok
+    c.in_ok-was-in-true-Some.ensures.entries
     ∙ ap (λ f. insert_entry key_cmp ops c.args.op.key (Replace f)) c.laid_over_none.ensures
     ∙ ops_with-both ops c.args.op c.in-true-Some.fields c.in-true-Some.is-0 c.in-true-Some.is-1

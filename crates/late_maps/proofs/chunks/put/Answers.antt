@@ -12,7 +12,7 @@ insert-requires g c =
 pub returns-in-Ok-clause-ok : goal.returns-in-Ok-clause-ok
 returns-in-Ok-clause-ok g c =
     let there : c.args.chunk < length c.args.chunks.now.items = c.requires.chunk (rw c.as_slice.ensures.value at (c.is_behind_all.ensures.some c.if-is_behind_all.false)) in
-    c.halve.ensures.entries
+    c.part.ensures.entries
     ∙ entries_of_chunks-edit c.args.chunks.now.items c.args.chunk c.index_mut.result.now c.insert.new.self (λ l. insert l c.args.at c.args.entry) there c.index_mut.ensures.value c.in-Ok.ensures.items
 
 pub returns-in-Err-clause-err : goal.returns-in-Err-clause-err

@@ -1,7 +1,7 @@
 use Rattle.std.proofs.Common.{subst, arith}
 use Rattle.late_maps.specs.Chunks.{IsOrderAt}
 use Rattle.late_maps.proofs.Behind.{chunk_fits}
-use Rattle.late_maps.proofs.Places.{IsSpot-between, IsSpot-end, IsSpot-found}
+use Rattle.late_maps.proofs.Places.{IsSpot-between, IsSpot-found}
 use Rattle.late_maps.proofs.chunks.spot_past.Goals as goal
 
 pub overflow_add-next : goal.overflow_add-next
@@ -14,6 +14,3 @@ returns-in-Some-Less g c = IsSpot-between g.met.K.Ord.total c.args.key.now c.arg
 
 pub returns-in-Some-Equal : goal.returns-in-Some-Equal
 returns-in-Some-Equal g c = IsSpot-found g.met.K.Ord.total c.args.key.now c.args.chunks.now c.requires.rising _ (subst (IsOrderAt g.K.Ord.cmp c.args.chunks.now _ c.args.key.now) c.in-Some-Equal.field-0-is c.in-Some-Equal.ensures.some)
-
-pub returns-then-next-chunks : goal.returns-then-next-chunks
-returns-then-next-chunks g c = IsSpot-end g.met.K.Ord.total c.args.key.now c.args.chunks.now c.requires.rising c.args.near c.requires.past c.in-None.ensures.none (let last = c.if-next-chunks.true in omega arith)

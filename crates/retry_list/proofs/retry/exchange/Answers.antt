@@ -11,7 +11,7 @@ returns-in-Ok-None-clause-indexed c =
     let new = c.args.index.now in
     let filed = subst₂ (λ e k. IsFiledAs true old new e k) c.requires.about c.requires.named c.requires.filed.filed in
     let none : reason_at reasons c.args.key ≡ None = search rules in
-    subst (λ r. AreReasonsFiled r new) (sym c.in-Ok-None.ensures.ok) (IsIndexed-new reasons old new c.args.key c.args.wait c.requires.filed.indexed filed none)
+    subst (λ r. AreReasonsFiled r new) (sym c.in-Ok-None.ensures.entries) (IsIndexed-new reasons old new c.args.key c.args.wait c.requires.filed.indexed filed none)
 
 pub returns-in-Ok-Some-clause-indexed : goal.returns-in-Ok-Some-clause-indexed
 returns-in-Ok-Some-clause-indexed c =
@@ -22,7 +22,7 @@ returns-in-Ok-Some-clause-indexed c =
     let filed = subst₂ (λ e k. IsFiledAs true old mid e k) c.requires.about c.requires.named c.requires.filed.filed in
     let unfiled = subst₂ (λ f k. IsFiledUnless mid new (event_of c.in-Ok-Some.old) f k) c.requires.about c.requires.named (subst (λ e. IsFiledUnless mid new e c.args.event.now c.args.name.now) c.of.ensures c.unfile_unless.ensures) in
     let there : reason_at reasons c.args.key ≡ Some c.in-Ok-Some.old = search rules in
-    subst (λ r. AreReasonsFiled r new) (sym c.in-Ok-Some.ensures.ok) (IsIndexed-moved reasons old mid new c.args.key c.args.wait c.in-Ok-Some.old c.requires.filed.indexed filed unfiled there)
+    subst (λ r. AreReasonsFiled r new) (sym c.in-Ok-Some.ensures.entries) (IsIndexed-moved reasons old mid new c.args.key c.args.wait c.in-Ok-Some.old c.requires.filed.indexed filed unfiled there)
 
 pub returns-in-Err-clause-indexed : goal.returns-in-Err-clause-indexed
 returns-in-Err-clause-indexed c =

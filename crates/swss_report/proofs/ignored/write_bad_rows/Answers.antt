@@ -2,14 +2,13 @@ use Rattle.std.proofs.Common.{◌++◌, ap, arith, flat_map, sym, ◌∙◌}
 use Rattle.std.proofs.lemmas.List.{append_assoc}
 use Rattle.table_schema.specs.Fields.{Pairs}
 use Rattle.table_schema.specs.declared.key.Key.{Key}
-use Rattle.row_maps.specs.Entries.{lent_key}
 use Rattle.swss_report.specs.Ignored.{bad_rows, ignored_line}
 use Rattle.swss_report.proofs.BadRows.{count-first, few-bad_rows, lines-first}
 use Rattle.swss_report.proofs.ignored.write_bad_rows.Goals as goal
 
 pub overflow_add-count : goal.overflow_add-count
 overflow_add-count c =
-    let first = count-first c.args.plan.now c.loop-key.key-iterator c.next.new.self (lent_key c.in-Some.key, c.in-Some.fields.now) c.in-Some.ensures.steps in
+    let first = count-first c.args.plan.now c.loop-key.key-iterator c.next.new.self (c.in-Some.key.now, c.in-Some.fields.now) c.in-Some.ensures.steps in
     let all = c.loop-key.invariant.1 in
     let one = c.in_ok-count.ensures.count in
     let few = few-bad_rows c.args.plan.now c.args.rows.now in
@@ -19,7 +18,7 @@ overflow_add-count c =
 
 pub loop-key-preserved : goal.loop-key-preserved
 loop-key-preserved c =
-    let row : Key × Pairs = (lent_key c.in-Some.key, c.in-Some.fields.now) in
+    let row : Key × Pairs = (c.in-Some.key.now, c.in-Some.fields.now) in
     let bad = bad_rows c.args.plan.now c.next.new.self in
     let first = count-first c.args.plan.now c.loop-key.key-iterator c.next.new.self row c.in-Some.ensures.steps in
     let lines = lines-first c.args.plan.now c.loop-key.key-iterator c.next.new.self row c.in-Some.ensures.steps in

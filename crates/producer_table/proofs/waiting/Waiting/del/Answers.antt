@@ -7,4 +7,4 @@ use Rattle.producer_table.proofs.waiting.Waiting.del.Goals as goal
 pub invariant_of-self-2 : goal.invariant_of-self-2
 invariant_of-self-2 c =
     let pending = c.self.inside.keys in
-    kept HaveRisingNames c.insert.result pending (pending_after pending (Del c.args.key)) c.insert.new.self c.insert.ensures.ok c.insert.ensures.err c.self.invariant (HaveRisingNames-after pending (Del c.args.key) c.self.invariant)
+    kept HaveRisingNames c.insert.result pending (pending_after pending (Del c.args.key)) c.insert.new.self c.insert.ensures.entries c.insert.ensures.err c.self.invariant (HaveRisingNames-after pending (Del c.args.key) c.self.invariant)

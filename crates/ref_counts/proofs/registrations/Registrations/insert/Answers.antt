@@ -5,13 +5,13 @@ use Rattle.ref_counts.proofs.Partings.{group-stands, neighbor-stands, other-stan
 use Rattle.ref_counts.proofs.registrations.Registrations.insert.Goals as goal
 
 pub invariant_of-self-in-Row : goal.invariant_of-self-in-Row
-invariant_of-self-in-Row c = parted-row_put c.self.inside c.self.invariant c.insert.new.self c.in-Row.key c.args.registration c.in-Row.ensures.1 c.in_ok-insert-in-Row.ensures.ok
+invariant_of-self-in-Row c = parted-row_put c.self.inside c.self.invariant c.insert.new.self c.in-Row.key c.args.registration c.in-Row.ensures.1 c.in_ok-insert-in-Row.ensures.entries
 
 pub invariant_of-self-in-Other : goal.invariant_of-self-in-Other
 invariant_of-self-in-Other c = parted-other_put c.self.inside c.self.invariant c.insert-in-Other.new.self c.in-Other.name c.args.registration c.in-Other.ensures.1 c.in_ok-insert-in-Other.ensures.entries
 
 pub returns-in_ok-insert-in-Row-clause-ok : goal.returns-in_ok-insert-in-Row-clause-ok
-returns-in_ok-insert-in-Row-clause-ok c = (row-stands c.self.inside c.self.invariant c.in-Row.key c.in-Row.ensures.1).put c.insert.new.self c.args.registration c.in_ok-insert-in-Row.ensures.ok ∙ ap₂ (λ ns n. insert_entry registered_name_cmp ns n c.args.registration) c.self.view_is (sym c.in-Row.ensures.0)
+returns-in_ok-insert-in-Row-clause-ok c = (row-stands c.self.inside c.self.invariant c.in-Row.key c.in-Row.ensures.1).put c.insert.new.self c.args.registration c.in_ok-insert-in-Row.ensures.entries ∙ ap₂ (λ ns n. insert_entry registered_name_cmp ns n c.args.registration) c.self.view_is (sym c.in-Row.ensures.0)
 
 pub returns-in_ok-insert-in-Neighbor-clause-ok : goal.returns-in_ok-insert-in-Neighbor-clause-ok
 returns-in_ok-insert-in-Neighbor-clause-ok c = (neighbor-stands c.self.inside c.self.invariant c.in-Neighbor.neighbor).put c.insert-in-Neighbor.new.self c.args.registration c.in_ok-insert-in-Neighbor.ensures.entries ∙ ap₂ (λ ns n. insert_entry registered_name_cmp ns n c.args.registration) c.self.view_is (sym c.in-Neighbor.ensures)

@@ -15,4 +15,4 @@ invariant_of-self-2 c =
     let read = c.self.inside.read in
     let good : (plan : Ports) → good_row plan c.args.key.now (fields_at rows c.args.key.now) ≡ Some c.args.row.now = rw c.self.view_is c.requires in
     let stays : AreRead rows (insert_entry key_cmp read c.in_ok-copy.field-0 c.in_ok-copy-2.field-0) = rw (c.in_ok-copy.ensures, c.in_ok-copy-2.ensures) (AreRead-kept rows read c.args.key.now c.args.row.now good c.self.invariant) in
-    kept (AreRead rows) c.insert.result read _ c.insert.new.self c.insert.ensures.ok c.insert.ensures.err c.self.invariant stays
+    kept (AreRead rows) c.insert.result read _ c.insert.new.self c.insert.ensures.entries c.insert.ensures.err c.self.invariant stays
