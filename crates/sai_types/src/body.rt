@@ -153,6 +153,29 @@ pub struct Object<I> {
     pub body: Body<I>,
 }
 
+impl<I> Body<I> {
+    ghost use Rattle.sai_types.specs.Objects.{kind_of};
+
+    /// Its kind.
+    pub fn kind(&self) -> Kind
+        ensures { result ≡ kind_of self.now }
+    {
+        match self {
+            Body::Port { .. } => Kind::Port,
+            Body::Vlan { .. } => Kind::Vlan,
+            Body::BridgePort { .. } => Kind::BridgePort,
+            Body::VlanMember { .. } => Kind::VlanMember,
+            Body::Rif { .. } => Kind::Rif,
+            Body::OwnAddress { .. } => Kind::OwnAddress,
+            Body::Neighbor { .. } => Kind::Neighbor,
+            Body::NextHop { .. } => Kind::NextHop,
+            Body::Group => Kind::Group,
+            Body::GroupMember { .. } => Kind::GroupMember,
+            Body::Route { .. } => Kind::Route,
+        }
+    }
+}
+
 impl<I: Copy> Body<I> {
     /// The same body once more.
     pub fn copy(&self) -> Result<Body<I>, OutOfMemory>

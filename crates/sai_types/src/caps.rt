@@ -1,5 +1,6 @@
 // How many objects a chip has room for.
+use crate::KindCounts;
 
 /// The capacity of each kind, in the order of `Kind`.
 #[derive(Clone, Copy, Debug, PartialEq, Eq)]
-pub struct Caps(pub [u64; 11]);
+pub struct Caps(pub KindCounts);

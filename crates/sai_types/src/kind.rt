@@ -1,4 +1,11 @@
-// The kinds of objects.
+// The kinds of objects, and numbers for each of them.
+ghost use Rattle.std.specs.Prelude.{◌≡◌, ◌<◌};
+
+/// How many kinds there are.
+pub const KINDS: usize = 11;
+
+/// A number for each kind, in the order of `Kind`.
+pub type KindCounts = [u64; KINDS];
 
 /// A kind of object, in the order of the chip's table: lowest level first.
 #[derive(Clone, Copy, Debug, PartialEq, Eq, PartialOrd, Ord)]
@@ -25,4 +32,43 @@ pub enum Kind {
     GroupMember,
     /// A route.
     Route,
+}
+
+impl Kind {
+    ghost use Rattle.sai_types.specs.Objects.{level};
+
+    /// The kinds in their order.
+    pub const ALL: [Kind; KINDS] = [
+        Kind::Port,
+        Kind::Vlan,
+        Kind::BridgePort,
+        Kind::VlanMember,
+        Kind::Rif,
+        Kind::OwnAddress,
+        Kind::Neighbor,
+        Kind::NextHop,
+        Kind::Group,
+        Kind::GroupMember,
+        Kind::Route,
+    ];
+
+    /// The place of the kind in their order, from 0 on.
+    pub fn index(self) -> usize
+        ensures place { result ≡ level self }
+        ensures within { result < KINDS }
+    {
+        match self {
+            Kind::Port => 0,
+            Kind::Vlan => 1,
+            Kind::BridgePort => 2,
+            Kind::VlanMember => 3,
+            Kind::Rif => 4,
+            Kind::OwnAddress => 5,
+            Kind::Neighbor => 6,
+            Kind::NextHop => 7,
+            Kind::Group => 8,
+            Kind::GroupMember => 9,
+            Kind::Route => 10,
+        }
+    }
 }

@@ -22,7 +22,7 @@ pub use fail::Fail;
 pub use hop::{Base, Hop};
 pub use hops::Hops;
 pub use ids::{Rid, Vid};
-pub use kind::Kind;
+pub use kind::{KINDS, Kind, KindCounts};
 pub use laws::{
     calls_keep_whole, decided_by_what_stands, empty_is_whole, entries_stay_sorted,
     equal_entries_find_alike, hops_and_things_are_ordered, keys_are_taken_once, made_is_found,
