@@ -8,7 +8,7 @@ ghost use Rattle.asic_view.specs.Places.{inside, is_full};
 ghost use Rattle.asic_view.specs.View.{after_create, view_changed_at, entry_at, object_of, object_set, rid_at, vid_cmp, with_tie, without_object};
 
 use crate::ViewObject;
-use crate::body::{entry_of, kind_of};
+use crate::body::entry_of;
 use crate::place::Place;
 use indexmap::IndexMap;
 use sai_types::{Attr, Body, Entry, Kind, Object, Rid, Vid};
@@ -179,7 +179,7 @@ impl Objects {
         if self.places.len() - self.full > self.full {
             close(&mut self.places);
         }
-        Some(kind_of(&object.body))
+        Some(object.body.kind())
     }
 
     /// Sets an attribute of the object with this identifier, if there is one.
