@@ -1,5 +1,5 @@
 -- room by kinds and workers
-use Rattle.std.proofs.Common.{◌≡◌, ℕ, zero, suc, ◌+◌, ◌*◌, ◌<◌, ◌≤◌, ◌⊎◌, inl, inr, ⊎_elim, nat_lt, true, false, ◌&&◌, cond, List, [], ◌∷◌, None, Some, Option, drop, slice_index, refl, sym, ap, ◌∙◌, subst, arith}
+use Rattle.std.proofs.Common.{◌≡◌, ℕ, zero, suc, ◌+◌, ◌*◌, ◌<◌, ◌≤◌, ◌⊎◌, inl, inr, ⊎_elim, nat_lt, true, false, ◌&&◌, cond, List, [], ◌∷◌, None, Some, refl, sym, ◌∙◌, subst, arith}
 use Rattle.std.specs.List.{AllByRecursion}
 use Rattle.std.proofs.lemmas.Bool.{cases_eq, cases_lt}
 use Rattle.std.proofs.lemmas.Bool.Decides.{nat_tests}
@@ -39,23 +39,6 @@ each_place P h (suc (suc (suc (suc (suc (suc (suc (suc zero)))))))) lt = h kind.
 each_place P h (suc (suc (suc (suc (suc (suc (suc (suc (suc zero))))))))) lt = h kind.GroupMember
 each_place P h (suc (suc (suc (suc (suc (suc (suc (suc (suc (suc zero)))))))))) lt = h kind.Route
 each_place P h (suc (suc (suc (suc (suc (suc (suc (suc (suc (suc (suc j))))))))))) lt = absurd (omega arith)
-
--- one kind after another
-module _ (room : RoomState) (need used : List ℕ) where
-  abbrev pub from : ℕ → Option Kind
-  from j = first_lacking room need used (drop j kinds)
-
-  from-kind : (k : Kind) → from (level k) ≡ cond (lacks room need used k) (Some k) (from (level k + 1))
-  from-kind = each_kind (λ k. from (level k) ≡ cond (lacks room need used k) (Some k) (from (level k + 1))) (refl, (refl, (refl, (refl, (refl, (refl, (refl, (refl, (refl, (refl, (refl, tt)))))))))))
-
-  pub lacking-found : (k : Kind) (j : ℕ) → level k ≡ j → lacks room need used k ≡ true → from j ≡ Some k
-  lacking-found k j at is = ap from (sym at) ∙ from-kind k ∙ ap (λ b. cond b (Some k) (from (level k + 1))) is
-
-  pub lacking-passed : (k : Kind) (j : ℕ) → level k ≡ j → lacks room need used k ≡ false → from (j + 1) ≡ from j
-  lacking-passed k j at not = sym (ap from (sym at) ∙ from-kind k ∙ ap (λ b. cond b (Some k) (from (level k + 1))) not ∙ ap (λ j. from (j + 1)) at)
-
-  pub lacking-unneeded : (j : ℕ) → j < 11 → slice_index need j ≡ 0 → from (j + 1) ≡ from j
-  lacking-unneeded = each_place (λ j. slice_index need j ≡ 0 → from (j + 1) ≡ from j) (λ k none. lacking-passed k (level k) refl (ap (λ n. nat_lt 0 n && nat_lt (capacity_of room.capacities k) (number_of_kind used k + places_in_all room.reserved k + n)) none))
 
 none_lacks : (room : RoomState) (need used : List ℕ) (ks : List Kind) → first_lacking room need used ks ≡ None → AllByRecursion (λ k. lacks room need used k ≡ false) ks
 none_lacks room need used [] h = tt
