@@ -8,7 +8,7 @@ ghost use Rattle.sai_chip.specs.Tally.{count_at, empty_tally, is_mark, claims};
 ghost use Rattle.sai_chip.specs.declared.mark.TakenMark.{TakenMark};
 
 use crate::mark::TakenMark;
-use crate::marks::{base, kind_of};
+use crate::marks::base;
 use crate::membership::{GroupMembers, count_member, lower_member, members_of, raise_member};
 use crate::tally::{count, lower, raise};
 use late_maps::LateMap;
@@ -155,7 +155,7 @@ impl Counts {
         ensures ok { OnOk result ((m : TakenMark) → count_at self.new m ≡ count_at self.old m + claims m (marks_of body.now)) }
         ensures err { OnErr result ((m : TakenMark) → count_at self.new m ≡ count_at self.old m) }
     {
-        let kind = kind_of(body);
+        let kind = body.kind();
         self.raise(TakenMark::Of(kind))?;
         if let Err(error) = self.take_keys(body) {
             self.lower(TakenMark::Of(kind));
@@ -254,7 +254,7 @@ impl Counts {
         ensures { (m : TakenMark) → count_at self.new m ≡ count_at self.old m - claims m (marks_if (option_copied body.entry)) }
     {
         if let Some(body) = body {
-            self.lower(TakenMark::Of(kind_of(body)));
+            self.lower(TakenMark::Of(body.kind()));
             self.free_keys(body);
         }
     }

@@ -19,7 +19,7 @@ use crate::fail::Failing;
 use crate::forward::Forward;
 use crate::forwarding::forward_by;
 use crate::held::Held;
-use crate::table::{level, refusal};
+use crate::table::refusal;
 use sai_types::{
     Body, Call, Caps, Chip, ChipAnswer, Fail, Kind, ListAnswer, Object, Rid, empty_is_whole,
     equal_entries_find_alike, keys_are_taken_once, made_is_found, others_stay, removed_is_gone,
@@ -239,7 +239,7 @@ impl Chip for SimChip {
     }
 
     fn capacity(&self, kind: Kind) -> u64 {
-        self.caps.0[level(kind)]
+        self.caps.0[kind.index()]
     }
 
     fn used(&self, kind: Kind) -> u64 {

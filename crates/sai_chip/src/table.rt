@@ -1,14 +1,13 @@
 // The chip's table of answers.
 ghost use Rattle.std.specs.Prelude.{◌≡◌, option_copied};
 ghost use Rattle.std.specs.List.{list_any};
-ghost use Rattle.sai_types.specs.Objects.{body_at, is_there, is_kind_of, level};
+ghost use Rattle.sai_types.specs.Objects.{body_at, is_there, is_kind_of};
 ghost use Rattle.sai_types.specs.Refusal.{attr_refers_well, clash, create_refusal, first_refusal, has_attr, is_base, is_target, refers_to, refers_well, refusal_of, remove_refusal, set_refusal};
 ghost use Rattle.sai_chip.specs.Marks.{is_claimed};
 ghost use Rattle.sai_chip.specs.declared.mark.TakenMark.TheVariants as mark;
 
 use crate::held::Held;
 use crate::mark::TakenMark;
-use crate::marks::kind_of;
 use sai_types::{Attr, Body, Call, Caps, ChipAnswer, Entry, Kind, Rid, RifOn, To};
 
 /// The first refusal of the table that holds for a call, and None where the call is legal.
@@ -22,35 +21,16 @@ pub fn refusal(held: &Held, caps: &Caps, call: &Call<Rid>) -> Option<ChipAnswer>
     }
 }
 
-/// The place of a kind in the table.
-pub fn level(kind: Kind) -> usize
-    ensures { result ≡ level kind }
-{
-    match kind {
-        Kind::Port => 0,
-        Kind::Vlan => 1,
-        Kind::BridgePort => 2,
-        Kind::VlanMember => 3,
-        Kind::Rif => 4,
-        Kind::OwnAddress => 5,
-        Kind::Neighbor => 6,
-        Kind::NextHop => 7,
-        Kind::Group => 8,
-        Kind::GroupMember => 9,
-        Kind::Route => 10,
-    }
-}
-
 /// A body is refused where a reference is absent, where it clashes, and where its kind is full.
 fn create_refusal(held: &Held, caps: &Caps, body: &Body<Rid>) -> Option<ChipAnswer>
     ensures { result ≡ create_refusal caps.now.0 held.now body.now }
 {
-    let kind = kind_of(body);
+    let kind = body.kind();
     if !refers_well(held, body) {
         Some(ChipAnswer::BadReference)
     } else if clashes(held, body) {
         Some(ChipAnswer::Exists)
-    } else if caps.0[level(kind)] <= held.used(kind) {
+    } else if caps.0[kind.index()] <= held.used(kind) {
         Some(ChipAnswer::Full)
     } else {
         None
@@ -118,7 +98,7 @@ fn is_there(held: &Held, kind: Kind, id: Rid) -> bool
     ensures { result ≡ is_there held.now kind id }
 {
     match held.bodies().get(id) {
-        Some(body) => level(kind_of(body)) == level(kind),
+        Some(body) => body.kind().index() == kind.index(),
         None => false,
     }
 }
