@@ -1,7 +1,6 @@
 // A script while its lines are read.
 ghost use Rattle.std.specs.Prelude.{◌≡◌, ◌≤◌, [], ◌∷◌, IfOk, OnOk, bytes_eq, length, map};
 ghost use Rattle.std.specs.List.{position};
-ghost use Rattle.sai_types.specs.Objects.{level};
 ghost use Rattle.swss_script.specs.Script.{Becomes, add, new_draft, ended, in_head, in_section, producer_named, draft_round_ended, script_at, section_begun, section_ended, round_settled, shown_in, with_capacity, with_fail, with_head, draft_with_line};
 ghost use Rattle.swss_script.specs.declared.line.HeadLine.TheVariants as head;
 ghost use Rattle.swss_script.specs.declared.parts.Act.TheVariants as act;
@@ -13,7 +12,7 @@ use crate::{
     Why, Writes,
 };
 use row_store::Rows;
-use sai_types::{Caps, Kind};
+use sai_types::{Caps, KINDS, Kind};
 use std::alloc::Global;
 use std::mem::{self, drop};
 use swss_types::{OutOfMemory, Text};
@@ -44,7 +43,7 @@ pub struct Draft {
     /// The script, with the rounds that ended.
     pub script: Script,
     /// Of each kind, whether the head set its capacity.
-    pub kinds: [bool; 11],
+    pub kinds: [bool; KINDS],
     /// The place of the next line.
     pub place: Place,
     /// The sections of the round that did not end, but for one that did not end.
@@ -71,7 +70,7 @@ impl Draft {
                 producers: Producers::new(alloc),
                 rounds: RoundList::new(alloc),
             },
-            kinds: [false; 11],
+            kinds: [false; KINDS],
             place: Place::Head,
             sections: Sections::new(alloc),
             acts: Acts::new(alloc),
@@ -142,7 +141,7 @@ impl Draft {
     fn set_capacity(&mut self, kind: Kind, most: u64) -> Result<(), Why>
         ensures { Becomes (with_capacity self.old kind most) result self.new }
     {
-        let at = level(kind);
+        let at = kind.index();
         if self.kinds[at] {
             return Err(Why::HeadTwice);
         }
@@ -318,23 +317,4 @@ fn place_of(names: &[Text], name: &[u8]) -> Option<usize>
     ensures { result ≡ position (bytes_eq name.now) names.now }
 {
     names.iter().position(|other| name == other.bytes())
-}
-
-/// The place of a kind in the chip's table.
-fn level(kind: Kind) -> usize
-    ensures { result ≡ level kind }
-{
-    match kind {
-        Kind::Port => 0,
-        Kind::Vlan => 1,
-        Kind::BridgePort => 2,
-        Kind::VlanMember => 3,
-        Kind::Rif => 4,
-        Kind::OwnAddress => 5,
-        Kind::Neighbor => 6,
-        Kind::NextHop => 7,
-        Kind::Group => 8,
-        Kind::GroupMember => 9,
-        Kind::Route => 10,
-    }
 }
