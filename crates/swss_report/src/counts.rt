@@ -5,7 +5,7 @@ ghost use Rattle.swss_report.specs.Ended.{ended_round};
 
 use crate::counted::write_count;
 use crate::ending::turns_at_end;
-use crate::kinds::{KINDS, kind_name};
+use crate::kinds::kind_name;
 use crate::round::RoundEnd;
 use sai_chip::SimChip;
 use sai_types::{Chip, Kind};
@@ -18,7 +18,7 @@ pub(crate) fn write_counts(out: &mut Vec<u8>, end: &RoundEnd<'_>) -> Result<(), 
 {
     let turns = turns_at_end(end.marks);
     write_totals(out, end.taken, end.chip.effects(), turns)?;
-    write_kinds(out, end.chip, &KINDS)
+    write_kinds(out, end.chip, &Kind::ALL)
 }
 
 /// Appends the numbers of writes, of calls and of turns.

@@ -1,23 +1,8 @@
-// The kinds of objects, as the report names and orders them.
+// The kinds of objects, as the report names them.
 ghost use Rattle.std.specs.Prelude.{◌≡◌};
 ghost use Rattle.swss_report.specs.Kinds.{kind_name};
 
 use sai_types::Kind;
-
-/// The kinds in the order of the chip's table.
-pub(crate) const KINDS: [Kind; 11] = [
-    Kind::Port,
-    Kind::Vlan,
-    Kind::BridgePort,
-    Kind::VlanMember,
-    Kind::Rif,
-    Kind::OwnAddress,
-    Kind::Neighbor,
-    Kind::NextHop,
-    Kind::Group,
-    Kind::GroupMember,
-    Kind::Route,
-];
 
 /// The name of a kind.
 pub(crate) fn kind_name(kind: Kind) -> &'static [u8]
