@@ -8,21 +8,6 @@ use std::alloc::Global;
 use swss_types::{Ip, Lanes, Mac, Prefix, Tagging, Text};
 use table_schema::{Fields, Key, has_colon, read_key};
 
-/// The kinds by their names in the chip's table, in its order.
-pub const KINDS: [(&str, Kind); 11] = [
-    ("PORT", Kind::Port),
-    ("VLAN", Kind::Vlan),
-    ("BRIDGE_PORT", Kind::BridgePort),
-    ("VLAN_MEMBER", Kind::VlanMember),
-    ("RIF", Kind::Rif),
-    ("OWN_ADDRESS", Kind::OwnAddress),
-    ("NEIGHBOR", Kind::Neighbor),
-    ("NEXT_HOP", Kind::NextHop),
-    ("GROUP", Kind::Group),
-    ("GROUP_MEMBER", Kind::GroupMember),
-    ("ROUTE", Kind::Route),
-];
-
 /// A number.
 pub fn number(word: &str) -> Result<u64> {
     word.parse::<u64>().context("a number")
@@ -65,12 +50,29 @@ pub fn lanes(alloc: Global, word: &str) -> Result<Lanes> {
 
 /// A kind of object.
 pub fn kind(word: &str) -> Result<Kind> {
-    for (name, kind) in KINDS {
-        if name == word {
+    for kind in Kind::ALL {
+        if kind_name(kind) == word {
             return Ok(kind);
         }
     }
     bail!("a kind")
+}
+
+/// The name of a kind in the chip's table.
+fn kind_name(kind: Kind) -> &'static str {
+    match kind {
+        Kind::Port => "PORT",
+        Kind::Vlan => "VLAN",
+        Kind::BridgePort => "BRIDGE_PORT",
+        Kind::VlanMember => "VLAN_MEMBER",
+        Kind::Rif => "RIF",
+        Kind::OwnAddress => "OWN_ADDRESS",
+        Kind::Neighbor => "NEIGHBOR",
+        Kind::NextHop => "NEXT_HOP",
+        Kind::Group => "GROUP",
+        Kind::GroupMember => "GROUP_MEMBER",
+        Kind::Route => "ROUTE",
+    }
 }
 
 /// A key.

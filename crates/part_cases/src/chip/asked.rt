@@ -1,10 +1,10 @@
 // A chip, and what it is asked.
 use crate::chip::call::{answer, call, list_answer, object};
 use crate::chips::put_away;
-use crate::words::{KINDS, kind, number};
+use crate::words::{kind, number};
 use anyhow::{Context, Result, bail};
 use sai_chip::{Fail, SimChip};
-use sai_types::{Caps, Chip, Object, Rid};
+use sai_types::{Caps, Chip, KINDS, Object, Rid};
 use std::alloc::Global;
 use std::fmt::Debug;
 use std::mem::replace;
@@ -22,7 +22,7 @@ pub struct Asked {
 impl Asked {
     /// An empty chip with room for 100 objects of each kind.
     pub fn new(alloc: Global) -> Asked {
-        let room = Caps([100; 11]);
+        let room = Caps([100; KINDS]);
         Asked {
             room,
             fails: Vec::new(alloc),
@@ -45,7 +45,7 @@ impl Asked {
     /// Does what a line says of a chip before its first call, and tells whether it is such a line.
     pub fn prepare(&mut self, alloc: Global, words: &[&str]) -> Result<bool> {
         match words {
-            ["room", most] => self.room = Caps([number(most)?; 11]),
+            ["room", most] => self.room = Caps([number(most)?; KINDS]),
             ["room", name, most] => self.room = with_room(self.room, name, number(most)?)?,
             ["fail", at, when] => self.fails.push(Fail {
                 at: number(at)?,
@@ -134,10 +134,7 @@ fn unless_equal<T: Debug + PartialEq>(
 
 /// The same room but for a kind.
 fn with_room(room: Caps, name: &str, most: u64) -> Result<Caps> {
-    let place = KINDS.iter().position(|(kind, _)| *kind == name);
     let mut room = room.0;
-    *room
-        .get_mut(place.context("a kind")?)
-        .context("a capacity")? = most;
+    room[kind(name)?.index()] = most;
     Ok(Caps(room))
 }

@@ -1,41 +1,19 @@
 // What a hitless plan has room for.
-use crate::words::KINDS;
 use anyhow::Result;
 use sai_chip::SimChip;
-use sai_types::{Body, Caps, Chip, Kind, Object, Rid, Vid};
+use sai_types::{Body, Caps, Chip, KINDS, Kind, Object, Rid, Vid};
 use std::alloc::Global;
 use view_match::{NaturalKey, natural_keys};
 
 /// Room for a thousand objects of each kind.
-pub const AMPLE: Caps = Caps([1000; 11]);
-
-/// The kind of a body.
-fn kind_of<I>(body: &Body<I>) -> Kind {
-    match body {
-        Body::Port { .. } => Kind::Port,
-        Body::Vlan { .. } => Kind::Vlan,
-        Body::BridgePort { .. } => Kind::BridgePort,
-        Body::VlanMember { .. } => Kind::VlanMember,
-        Body::Rif { .. } => Kind::Rif,
-        Body::OwnAddress { .. } => Kind::OwnAddress,
-        Body::Neighbor { .. } => Kind::Neighbor,
-        Body::NextHop { .. } => Kind::NextHop,
-        Body::Group => Kind::Group,
-        Body::GroupMember { .. } => Kind::GroupMember,
-        Body::Route { .. } => Kind::Route,
-    }
-}
+pub const AMPLE: Caps = Caps([1000; KINDS]);
 
 /// Room for the greater of two views in each kind, and for the VLAN by which identifiers are used up.
 pub fn tight_room(old: &[Body<Vid>], new: &[Body<Vid>]) -> Caps {
-    let mut caps = [0; 11];
-    for (place, (_, kind)) in KINDS.iter().enumerate() {
-        let spare = u64::from(*kind == Kind::Vlan);
-        if let Some(room) = caps.get_mut(place) {
-            *room = count(old, *kind)
-                .max(count(new, *kind))
-                .saturating_add(spare);
-        }
+    let mut caps = [0; KINDS];
+    for kind in Kind::ALL {
+        let spare = u64::from(kind == Kind::Vlan);
+        caps[kind.index()] = count(old, kind).max(count(new, kind)).saturating_add(spare);
     }
     Caps(caps)
 }
@@ -44,7 +22,7 @@ pub fn tight_room(old: &[Body<Vid>], new: &[Body<Vid>]) -> Caps {
 fn count(bodies: &[Body<Vid>], kind: Kind) -> u64 {
     let mut count = 0u64;
     for body in bodies {
-        count = count.saturating_add(u64::from(kind_of(body) == kind));
+        count = count.saturating_add(u64::from(body.kind() == kind));
     }
     count
 }
@@ -54,9 +32,9 @@ pub fn fits(alloc: Global, chip: &SimChip, second: &SimChip, caps: &Caps) -> Res
     let old = natural_keys(alloc, chip.objects(alloc)?.as_slice())?;
     let objects = second.objects(alloc)?;
     let new = natural_keys(alloc, objects.as_slice())?;
-    for ((_, kind), room) in KINDS.iter().zip(caps.0.iter()) {
-        let lacking = lacking(old.as_slice(), new.as_slice(), objects.as_slice(), *kind);
-        if *room < chip.used(*kind).saturating_add(lacking) {
+    for kind in Kind::ALL {
+        let lacking = lacking(old.as_slice(), new.as_slice(), objects.as_slice(), kind);
+        if caps.0[kind.index()] < chip.used(kind).saturating_add(lacking) {
             return Ok(false);
         }
     }
@@ -72,7 +50,7 @@ fn lacking(
 ) -> u64 {
     let mut count = 0u64;
     for (key, object) in new.iter().zip(objects) {
-        let lacks = kind_of(&object.body) == kind && !old.contains(key);
+        let lacks = object.body.kind() == kind && !old.contains(key);
         count = count.saturating_add(u64::from(lacks));
     }
     count
