@@ -13,7 +13,7 @@ use crate::flight::Flight;
 use crate::workers::Workers;
 use orch_flight::unapplied;
 use ref_counts::{Registry, Room};
-use sai_types::{Call, Caps, Vid};
+use sai_types::{Call, Caps, KindCounts, Vid};
 use std::alloc::Global;
 use std::marker::Model;
 use std::mem::{drop, replace};
@@ -110,7 +110,7 @@ impl Board {
     /// worker has nothing under way.
     pub fn begin(
         &mut self,
-        used: &[u64; 11],
+        used: &KindCounts,
         worker: u32,
         key: &Key,
         new: Option<Row>,

@@ -16,7 +16,7 @@ use crate::ending::{drop_users, end_row};
 use crate::row_flight::RowFlight;
 use nexthop_orch::GroupFlight;
 use ref_counts::{Name, NameState, Next, Registry, Room};
-use sai_types::{Call, Hops, Vid};
+use sai_types::{Call, Hops, KindCounts, Vid};
 use std::alloc::Global;
 use std::marker::Model;
 use switch_model::Wait;
@@ -55,7 +55,7 @@ impl Flight {
         plan: &PortPlan,
         reg: &mut Registry,
         room: &mut Room,
-        used: &[u64; 11],
+        used: &KindCounts,
         worker: u32,
         key: &Key,
         old: Option<&Row>,

@@ -14,7 +14,7 @@ use neigh_orch::NeighFlight;
 use port_orch::PortFlight;
 use ref_counts::{Name, Next, Registry, Room};
 use route_orch::RouteFlight;
-use sai_types::{Hops, Vid};
+use sai_types::{Hops, KindCounts, Vid};
 use std::alloc::Global;
 use switch_model::Wait;
 use swss_types::OutOfMemory;
@@ -44,7 +44,7 @@ impl RowFlight {
         plan: &PortPlan,
         reg: &mut Registry,
         room: &mut Room,
-        used: &[u64; 11],
+        used: &KindCounts,
         worker: u32,
         key: &Key,
         old: Option<&Row>,

@@ -11,6 +11,7 @@ ghost use Rattle.intf_orch.specs.Interfaces.{IsLive, IsRetired, intf_operation, 
 use crate::stage::{OwnStage, Subject, own_places, own_stage};
 use orch_flight::{leave, own_of, start_row, start_sharing, try_remove};
 use ref_counts::{Name, Registry, Room};
+use sai_types::{KINDS, KindCounts};
 use switch_model::Wait;
 use swss_types::{IfName, Ip, OutOfMemory};
 use table_schema::{Key, PortPlan, Row};
@@ -20,7 +21,7 @@ pub fn add(
     plan: &PortPlan,
     reg: &mut Registry,
     room: &mut Room,
-    used: &[u64; 11],
+    used: &KindCounts,
     worker: u32,
     on: IfName,
     ip: &Ip,
@@ -59,7 +60,7 @@ pub fn change(
     plan: &PortPlan,
     reg: &mut Registry,
     room: &mut Room,
-    used: &[u64; 11],
+    used: &KindCounts,
     worker: u32,
     on: IfName,
     ip: &Ip,
@@ -76,7 +77,15 @@ pub fn change(
     let key = Key::Addr(on, *ip, len);
     let names = [Key::Intf(on)];
     let begun = start_row(
-        reg, room, used, worker, &key, &names, true, &shared, &[0; 11],
+        reg,
+        room,
+        used,
+        worker,
+        &key,
+        &names,
+        true,
+        &shared,
+        &[0; KINDS],
     )?;
     Ok(begun.and(Ok(Subject::Addr(on, *ip, len, OwnStage::Stays))))
 }
@@ -87,7 +96,7 @@ pub fn remove(
     plan: &PortPlan,
     reg: &mut Registry,
     room: &Room,
-    used: &[u64; 11],
+    used: &KindCounts,
     worker: u32,
     on: IfName,
     ip: &Ip,

@@ -14,7 +14,7 @@ use crate::stage::{OwnStage, RifStage, Subject};
 use crate::starting::{start_address, start_interface};
 use orch_flight::vid;
 use ref_counts::{Name, Next, Registry, Room};
-use sai_types::{Body, Call, Entry, RifOn, Vid};
+use sai_types::{Body, Call, Entry, KindCounts, RifOn, Vid};
 use std::marker::Model;
 use switch_model::Wait;
 use swss_types::{IfName, Ip, OutOfMemory};
@@ -47,7 +47,7 @@ impl IntfFlight {
         plan: &PortPlan,
         reg: &mut Registry,
         room: &mut Room,
-        used: &[u64; 11],
+        used: &KindCounts,
         worker: u32,
         key: &Key,
         old: Option<&Row>,

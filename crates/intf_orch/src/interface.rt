@@ -11,6 +11,7 @@ ghost use Rattle.intf_orch.specs.Interfaces.{intf_operation};
 use crate::stage::{RifStage, Subject, coming, going, rif_places};
 use orch_flight::{base_of, start_row, try_remove};
 use ref_counts::{Name, Registry, Room};
+use sai_types::{KINDS, KindCounts};
 use switch_model::Wait;
 use swss_types::{IfName, OutOfMemory};
 use table_schema::{Key, PortPlan, Row};
@@ -20,7 +21,7 @@ pub fn add(
     plan: &PortPlan,
     reg: &mut Registry,
     room: &mut Room,
-    used: &[u64; 11],
+    used: &KindCounts,
     worker: u32,
     on: IfName,
     _new: &Row,
@@ -40,7 +41,7 @@ pub fn change(
     _plan: &PortPlan,
     reg: &mut Registry,
     room: &mut Room,
-    used: &[u64; 11],
+    used: &KindCounts,
     worker: u32,
     on: IfName,
     _old: &Row,
@@ -51,7 +52,7 @@ pub fn change(
     ensures err { OnErr result (reg.new ≡ reg.old) }
     ensures err_room { OnErr result (room.new ≡ room.old) }
 {
-    let begun = begin(reg, room, used, worker, on, true, &[0; 11])?;
+    let begun = begin(reg, room, used, worker, on, true, &[0; KINDS])?;
     Ok(begun.and(Ok(Subject::Intf(on, RifStage::Stays))))
 }
 
@@ -60,7 +61,7 @@ pub fn remove(
     plan: &PortPlan,
     reg: &mut Registry,
     room: &Room,
-    used: &[u64; 11],
+    used: &KindCounts,
     worker: u32,
     on: IfName,
     _old: &Row,
@@ -77,11 +78,11 @@ pub fn remove(
 fn begin(
     reg: &mut Registry,
     room: &mut Room,
-    used: &[u64; 11],
+    used: &KindCounts,
     worker: u32,
     on: IfName,
     applied: bool,
-    need: &[u64; 11],
+    need: &KindCounts,
 ) -> Result<Result<(), Wait>, OutOfMemory>
     requires worker { worker < 4 }
     requires unpinned { HasNoPins reg.old worker }

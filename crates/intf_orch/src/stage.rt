@@ -3,7 +3,7 @@ ghost use Rattle.std.specs.Prelude.{◌≡◌};
 ghost use Rattle.orch_flight.specs.Needing.{places_for};
 ghost use Rattle.intf_orch.specs.Interfaces.{coming, rif_going, own_due, own_stage, rif_due};
 
-use sai_types::Base;
+use sai_types::{Base, KINDS, KindCounts};
 use swss_types::{IfName, Ip};
 
 /// The row that an operation is about, and what becomes of its object.
@@ -60,12 +60,12 @@ pub fn going(base: Option<Base>) -> RifStage
 }
 
 /// The places that the router interface of an interface that is added takes.
-pub fn rif_places(base: Option<Base>) -> [u64; 11]
+pub fn rif_places(base: Option<Base>) -> KindCounts
     ensures { result ≡ places_for (rif_due (coming base)) }
 {
     match base {
         Some(_) => [0, 0, 0, 0, 1, 0, 0, 0, 0, 0, 0],
-        None => [0; 11],
+        None => [0; KINDS],
     }
 }
 
@@ -81,12 +81,12 @@ pub fn own_stage(builds: bool) -> OwnStage
 }
 
 /// The places that it takes.
-pub fn own_places(_ip: &Ip, builds: bool) -> [u64; 11]
+pub fn own_places(_ip: &Ip, builds: bool) -> KindCounts
     ensures { result ≡ places_for (own_due _ip.now (own_stage builds)) }
 {
     if builds {
         [0, 0, 0, 0, 0, 1, 0, 0, 0, 0, 0]
     } else {
-        [0; 11]
+        [0; KINDS]
     }
 }

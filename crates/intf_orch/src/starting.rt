@@ -7,6 +7,7 @@ ghost use Rattle.intf_orch.specs.Interfaces.{intf_operation};
 use crate::stage::Subject;
 use crate::{address, interface};
 use ref_counts::{Registry, Room};
+use sai_types::KindCounts;
 use switch_model::Wait;
 use swss_types::{IfName, Ip, OutOfMemory};
 use table_schema::{Key, PortPlan, Row};
@@ -16,7 +17,7 @@ pub fn start_interface(
     plan: &PortPlan,
     reg: &mut Registry,
     room: &mut Room,
-    used: &[u64; 11],
+    used: &KindCounts,
     worker: u32,
     on: IfName,
     old: Option<&Row>,
@@ -40,7 +41,7 @@ pub fn start_address(
     plan: &PortPlan,
     reg: &mut Registry,
     room: &mut Room,
-    used: &[u64; 11],
+    used: &KindCounts,
     worker: u32,
     on: IfName,
     ip: &Ip,

@@ -13,7 +13,7 @@ use crate::left::Left;
 use crate::starting::{add, change, remove};
 use orch_flight::{base_of, vid};
 use ref_counts::{Name, Next, Registry, Room};
-use sai_types::{Attr, Base, Body, Call, Entry, Vid};
+use sai_types::{Attr, Base, Body, Call, Entry, KindCounts, Vid};
 use std::marker::Model;
 use switch_model::Wait;
 use swss_types::{IfName, Ip, Mac, OutOfMemory};
@@ -50,7 +50,7 @@ impl NeighFlight {
         plan: &PortPlan,
         reg: &mut Registry,
         room: &mut Room,
-        used: &[u64; 11],
+        used: &KindCounts,
         worker: u32,
         key: &Key,
         old: Option<&Row>,
@@ -75,7 +75,7 @@ impl NeighFlight {
         plan: &PortPlan,
         reg: &mut Registry,
         room: &mut Room,
-        used: &[u64; 11],
+        used: &KindCounts,
         worker: u32,
         on: IfName,
         ip: &Ip,

@@ -5,22 +5,23 @@ ghost use Rattle.orch_flight.specs.Starting.{IsBegunBy};
 
 use orch_flight::{start_row, try_remove};
 use ref_counts::{Registry, Room};
+use sai_types::{KINDS, KindCounts};
 use switch_model::Wait;
 use swss_types::{IfName, Ip, OutOfMemory};
 use table_schema::{Key, PortPlan, Row};
 
 /// A neighbour that is made takes a place of its kind, and one of a next hop.
-const MADE: [u64; 11] = [0, 0, 0, 0, 0, 0, 1, 1, 0, 0, 0];
+const MADE: KindCounts = [0, 0, 0, 0, 0, 0, 1, 1, 0, 0, 0];
 
 /// A neighbour whose Ethernet address is set takes none.
-const SET: [u64; 11] = [0; 11];
+const SET: KindCounts = [0; KINDS];
 
 /// Starts the operation of a neighbour that is added.
 pub fn add(
     _plan: &PortPlan,
     reg: &mut Registry,
     room: &mut Room,
-    used: &[u64; 11],
+    used: &KindCounts,
     worker: u32,
     on: IfName,
     ip: &Ip,
@@ -50,7 +51,7 @@ pub fn change(
     _plan: &PortPlan,
     reg: &mut Registry,
     room: &mut Room,
-    used: &[u64; 11],
+    used: &KindCounts,
     worker: u32,
     on: IfName,
     ip: &Ip,
@@ -81,7 +82,7 @@ pub fn remove(
     _plan: &PortPlan,
     reg: &mut Registry,
     room: &Room,
-    used: &[u64; 11],
+    used: &KindCounts,
     worker: u32,
     on: IfName,
     ip: &Ip,

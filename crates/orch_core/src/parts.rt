@@ -16,7 +16,7 @@ ghost use Rattle.session_laws.specs.Core.{good_in};
 ghost use Rattle.orch_core.specs.Outcomes.{key_left};
 
 use crate::Core;
-use sai_types::{Call, Chip, SyncAnswer, Vid};
+use sai_types::{Call, Chip, KindCounts, SyncAnswer, Vid};
 use switch_model::Wait;
 use swss_types::OutOfMemory;
 use table_schema::{Key, Row};
@@ -74,7 +74,7 @@ impl Core {
     /// Begins the operation of a key for a worker, or tells why it has to wait.
     pub(crate) fn start(
         &mut self,
-        used: &[u64; 11],
+        used: &KindCounts,
         worker: u32,
         key: &Key,
         new: Option<Row>,

@@ -7,7 +7,7 @@ ghost use Rattle.orch_core.specs.Outcomes.{AreKindsCounted};
 use flight_board::Board;
 use retry_list::Retry;
 use row_store::Rows;
-use sai_types::Caps;
+use sai_types::{Caps, KindCounts};
 use std::alloc::Global;
 use std::marker::Model;
 use switch_model::Log;
@@ -119,7 +119,7 @@ impl Core {
     }
 
     /// How many objects of each kind stand.
-    pub(crate) fn used(&self) -> [u64; 11]
+    pub(crate) fn used(&self) -> KindCounts
         ensures { AreKindsCounted self.now.sync (number_of_kind result) }
     {
         self.syncd.counts()

@@ -6,6 +6,7 @@ ghost use Rattle.orch_flight.specs.Needing.{first_unapplied, least_of, row_reaso
 ghost use Rattle.orch_flight.specs.Taking.{to_list};
 
 use ref_counts::{Name, NameState, Registry, Room};
+use sai_types::KindCounts;
 use switch_model::Wait;
 use swss_types::OutOfMemory;
 use table_schema::Key;
@@ -15,10 +16,10 @@ use table_schema::Key;
 pub fn reason(
     reg: &Registry,
     room: &Room,
-    used: &[u64; 11],
+    used: &KindCounts,
     keys: &[Key],
     shared: &Option<Name>,
-    need: &[u64; 11],
+    need: &KindCounts,
 ) -> Result<Option<Wait>, OutOfMemory>
     ensures { IfOk result (λ wait. wait ≡ row_reason reg.now room.now used.now keys.now (to_list shared.now) need.now) }
 {

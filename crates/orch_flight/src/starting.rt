@@ -10,6 +10,7 @@ ghost use Rattle.orch_flight.specs.Taking.{to_list};
 use crate::beginning::begin;
 use crate::reasons::{owner, reason};
 use ref_counts::{Name, NameState, Registry, Room};
+use sai_types::KindCounts;
 use switch_model::Wait;
 use swss_types::OutOfMemory;
 use table_schema::Key;
@@ -27,13 +28,13 @@ pub fn lacks(reg: &Registry, shared: &Option<Name>) -> bool
 pub fn start_row(
     reg: &mut Registry,
     room: &mut Room,
-    used: &[u64; 11],
+    used: &KindCounts,
     worker: u32,
     key: &Key,
     keys: &[Key],
     applied: bool,
     shared: &Option<Name>,
-    need: &[u64; 11],
+    need: &KindCounts,
 ) -> Result<Result<(), Wait>, OutOfMemory>
     requires worker { worker < 4 }
     requires readable { IsReadable key.now }
@@ -60,14 +61,14 @@ pub fn start_row(
 pub fn start_sharing(
     reg: &mut Registry,
     room: &mut Room,
-    used: &[u64; 11],
+    used: &KindCounts,
     worker: u32,
     key: &Key,
     keys: &[Key],
     applied: bool,
     shared: &Option<Name>,
-    need: &[u64; 11],
-    need_built: &[u64; 11],
+    need: &KindCounts,
+    need_built: &KindCounts,
 ) -> Result<Result<bool, Wait>, OutOfMemory>
     requires worker { worker < 4 }
     requires readable { IsReadable key.now }
@@ -94,7 +95,7 @@ pub fn start_sharing(
 }
 
 /// The places that are needed, where what is shared has to be built, or is there.
-fn places_due<'a>(builds: bool, need: &'a [u64; 11], need_built: &'a [u64; 11]) -> &'a [u64; 11]
+fn places_due<'a>(builds: bool, need: &'a KindCounts, need_built: &'a KindCounts) -> &'a KindCounts
     ensures { result.now ≡ (if builds then need_built.now else need.now) }
 {
     if builds { need_built } else { need }
@@ -105,14 +106,14 @@ fn places_due<'a>(builds: bool, need: &'a [u64; 11], need_built: &'a [u64; 11]) 
 fn start(
     reg: &mut Registry,
     room: &mut Room,
-    used: &[u64; 11],
+    used: &KindCounts,
     worker: u32,
     key: &Key,
     keys: &[Key],
     applied: bool,
     shared: &Option<Name>,
     state: NameState,
-    need: &[u64; 11],
+    need: &KindCounts,
 ) -> Result<Result<(), Wait>, OutOfMemory>
     requires worker { worker < 4 }
     requires readable { IsReadable key.now }
@@ -143,7 +144,7 @@ fn start(
 }
 
 /// Whether no worker builds what stands so, or takes it away, and there is room for the places that are needed.
-fn may_begin(state: NameState, room: &Room, used: &[u64; 11], need: &[u64; 11]) -> bool
+fn may_begin(state: NameState, room: &Room, used: &KindCounts, need: &KindCounts) -> bool
     ensures { IsTrue result ↔ (owner_in state ≡ None) × (lacking room.now need.now used.now ≡ None) }
 {
     owner(state).is_none() && room.lacking(need, used).is_none()
@@ -153,10 +154,10 @@ fn may_begin(state: NameState, room: &Room, used: &[u64; 11], need: &[u64; 11]) 
 fn wait_for(
     reg: &Registry,
     room: &Room,
-    used: &[u64; 11],
+    used: &KindCounts,
     keys: &[Key],
     shared: &Option<Name>,
-    need: &[u64; 11],
+    need: &KindCounts,
 ) -> Result<Wait, OutOfMemory>
     requires { ¬ (row_reason reg.now room.now used.now keys.now (to_list shared.now) need.now ≡ None) }
     ensures { IfOk result (λ wait. row_reason reg.now room.now used.now keys.now (to_list shared.now) need.now ≡ Some wait) }

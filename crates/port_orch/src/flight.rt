@@ -13,7 +13,7 @@ ghost use Rattle.port_orch.specs.Ports.{IsPortStart, IsPortKey, IsPortRow, first
 use crate::starting::{add, change, remove};
 use orch_flight::vid;
 use ref_counts::{Name, Next, Registry, Room};
-use sai_types::{Attr, Body, Call, Entry, Vid};
+use sai_types::{Attr, Body, Call, Entry, KindCounts, Vid};
 use std::marker::Model;
 use switch_model::Wait;
 use swss_types::OutOfMemory;
@@ -48,7 +48,7 @@ impl PortFlight {
         plan: &PortPlan,
         reg: &mut Registry,
         room: &mut Room,
-        used: &[u64; 11],
+        used: &KindCounts,
         worker: u32,
         key: &Key,
         old: Option<&Row>,

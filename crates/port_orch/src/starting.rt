@@ -6,22 +6,23 @@ ghost use Rattle.port_orch.specs.Ports.{IsPortKey};
 
 use orch_flight::{start_row, try_remove};
 use ref_counts::{Registry, Room};
+use sai_types::{KINDS, KindCounts};
 use switch_model::Wait;
 use swss_types::OutOfMemory;
 use table_schema::{Key, PortPlan, Row};
 
 /// A port that is made takes a place of its kind.
-const MADE: [u64; 11] = [1, 0, 0, 0, 0, 0, 0, 0, 0, 0, 0];
+const MADE: KindCounts = [1, 0, 0, 0, 0, 0, 0, 0, 0, 0, 0];
 
 /// A port whose values are set takes none.
-const SET: [u64; 11] = [0; 11];
+const SET: KindCounts = [0; KINDS];
 
 /// Starts the operation of a port that is added.
 pub fn add(
     _plan: &PortPlan,
     reg: &mut Registry,
     room: &mut Room,
-    used: &[u64; 11],
+    used: &KindCounts,
     worker: u32,
     key: &Key,
     _new: &Row,
@@ -40,7 +41,7 @@ pub fn change(
     _plan: &PortPlan,
     reg: &mut Registry,
     room: &mut Room,
-    used: &[u64; 11],
+    used: &KindCounts,
     worker: u32,
     key: &Key,
     _old: &Row,
@@ -60,7 +61,7 @@ pub fn remove(
     _plan: &PortPlan,
     reg: &mut Registry,
     room: &Room,
-    used: &[u64; 11],
+    used: &KindCounts,
     worker: u32,
     key: &Key,
     _old: &Row,

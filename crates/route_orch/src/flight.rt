@@ -16,7 +16,7 @@ use crate::starting::begin;
 use crate::target::{Target, left};
 use orch_flight::leave;
 use ref_counts::{Name, Next, Registry, Room};
-use sai_types::{Attr, Body, Call, Entry, Hops, Vid};
+use sai_types::{Attr, Body, Call, Entry, Hops, KindCounts, Vid};
 use std::alloc::Global;
 use std::marker::Model;
 use switch_model::Wait;
@@ -80,7 +80,7 @@ impl RouteFlight {
         plan: &PortPlan,
         reg: &mut Registry,
         room: &mut Room,
-        used: &[u64; 11],
+        used: &KindCounts,
         worker: u32,
         key: &Key,
         old: Option<&Row>,

@@ -8,6 +8,7 @@ ghost use Rattle.route_orch.specs.Routes.{places_needed};
 
 use orch_flight::{start_sharing, try_remove};
 use ref_counts::{Name, Registry, Room};
+use sai_types::KindCounts;
 use std::alloc::Global;
 use switch_model::Wait;
 use swss_types::OutOfMemory;
@@ -19,7 +20,7 @@ pub fn begin(
     plan: &PortPlan,
     reg: &mut Registry,
     room: &mut Room,
-    used: &[u64; 11],
+    used: &KindCounts,
     worker: u32,
     key: &Key,
     old: Option<&Row>,
@@ -47,7 +48,7 @@ fn bring(
     _plan: &PortPlan,
     reg: &mut Registry,
     room: &mut Room,
-    used: &[u64; 11],
+    used: &KindCounts,
     worker: u32,
     key: &Key,
     old: Option<&Row>,
@@ -82,7 +83,7 @@ fn bring(
 }
 
 /// The places that a route needs: one for itself where it is new, and those of its group where that is built.
-fn places_needed(builds: bool, group: &Option<Name>, applied: bool) -> [u64; 11]
+fn places_needed(builds: bool, group: &Option<Name>, applied: bool) -> KindCounts
     ensures { result ≡ places_needed builds group.now applied }
 {
     let routes = if applied { 0 } else { 1 };
@@ -99,7 +100,7 @@ fn remove(
     _plan: &PortPlan,
     reg: &mut Registry,
     room: &Room,
-    used: &[u64; 11],
+    used: &KindCounts,
     worker: u32,
     key: &Key,
     _old: &Row,

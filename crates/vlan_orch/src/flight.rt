@@ -13,7 +13,7 @@ use crate::starting::{begin, builds_bridge};
 use crate::steps::{MemberStep, VlanStep, VlanSubject};
 use crate::taking::took;
 use ref_counts::{Next, Registry, Room};
-use sai_types::Vid;
+use sai_types::{KindCounts, Vid};
 use std::marker::Model;
 use switch_model::Wait;
 use swss_types::OutOfMemory;
@@ -43,7 +43,7 @@ impl VlanFlight {
         plan: &PortPlan,
         reg: &mut Registry,
         room: &mut Room,
-        used: &[u64; 11],
+        used: &KindCounts,
         worker: u32,
         key: &Key,
         old: Option<&Row>,

@@ -9,28 +9,29 @@ ghost use Rattle.vlan_orch.specs.Vlans.{IsOfVlan, IsVlanKey, places_of_member, p
 
 use orch_flight::{bridge_of, lacks, start_row, start_sharing, try_remove};
 use ref_counts::{Name, Registry, Room};
+use sai_types::{KINDS, KindCounts};
 use switch_model::Wait;
 use swss_types::OutOfMemory;
 use table_schema::{Key, PortPlan, Row};
 
 /// No place.
-const NONE: [u64; 11] = [0; 11];
+const NONE: KindCounts = [0; KINDS];
 
 /// A place for a VLAN.
-const VLAN: [u64; 11] = [0, 1, 0, 0, 0, 0, 0, 0, 0, 0, 0];
+const VLAN: KindCounts = [0, 1, 0, 0, 0, 0, 0, 0, 0, 0, 0];
 
 /// A place for a member.
-const MEMBER: [u64; 11] = [0, 0, 0, 1, 0, 0, 0, 0, 0, 0, 0];
+const MEMBER: KindCounts = [0, 0, 0, 1, 0, 0, 0, 0, 0, 0, 0];
 
 /// Places for a bridge port and a member.
-const BRIDGE_AND_MEMBER: [u64; 11] = [0, 0, 1, 1, 0, 0, 0, 0, 0, 0, 0];
+const BRIDGE_AND_MEMBER: KindCounts = [0, 0, 1, 1, 0, 0, 0, 0, 0, 0, 0];
 
 /// Starts the operation of a row, but for the operation itself.
 pub fn begin(
     plan: &PortPlan,
     reg: &mut Registry,
     room: &mut Room,
-    used: &[u64; 11],
+    used: &KindCounts,
     worker: u32,
     key: &Key,
     old: Option<&Row>,
@@ -53,7 +54,7 @@ fn begin_new(
     plan: &PortPlan,
     reg: &mut Registry,
     room: &mut Room,
-    used: &[u64; 11],
+    used: &KindCounts,
     worker: u32,
     key: &Key,
     old: Option<&Row>,
@@ -79,7 +80,7 @@ fn begin_vlan(
     _plan: &PortPlan,
     reg: &mut Registry,
     room: &mut Room,
-    used: &[u64; 11],
+    used: &KindCounts,
     worker: u32,
     key: &Key,
     old: Option<&Row>,
@@ -101,7 +102,7 @@ fn begin_member(
     plan: &PortPlan,
     reg: &mut Registry,
     room: &mut Room,
-    used: &[u64; 11],
+    used: &KindCounts,
     worker: u32,
     key: &Key,
     vlan: u16,
@@ -149,14 +150,14 @@ pub fn builds_bridge(plan: &PortPlan, reg: &Registry, key: &Key, new: Option<&Ro
 }
 
 /// The places that a VLAN's row needs.
-fn vlan_places(applied: bool) -> &'static [u64; 11]
+fn vlan_places(applied: bool) -> &'static KindCounts
     ensures { result.now ≡ places_of_vlan applied }
 {
     if applied { &NONE } else { &VLAN }
 }
 
 /// The places that a member's row needs.
-fn member_places(applied: bool, builds: bool) -> &'static [u64; 11]
+fn member_places(applied: bool, builds: bool) -> &'static KindCounts
     ensures { result.now ≡ places_of_member applied builds }
 {
     if applied {
