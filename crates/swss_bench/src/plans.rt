@@ -5,7 +5,7 @@ mod views;
 use anyhow::Result;
 use apply_order::plan;
 use distinct::find_distinct;
-use sai_types::{Caps, Object, Pairing, Rid, Vid};
+use sai_types::{Caps, KINDS, Object, Pairing, Rid, Vid};
 use std::alloc::Global;
 use std::mem::drop;
 use std::time::{Clock, Instant};
@@ -77,7 +77,7 @@ fn time_planning(
     pairing: &Pairing,
 ) -> Result<(usize, u128)> {
     let start = Instant::now(rt)?;
-    let plan = plan(alloc, old, new, pairing, &Caps([1_000_000; 11]))?;
+    let plan = plan(alloc, old, new, pairing, &Caps([1_000_000; KINDS]))?;
     let took = start.elapsed(rt);
     let calls = plan.calls.items().len();
     drop(plan);

@@ -5,7 +5,7 @@ ghost use Rattle.ref_counts.specs.Registered.{IsReadable};
 
 use super::common::assert_shown;
 use ref_counts::{Missing, Name, NameState, Registry, Room, put_names_are_found};
-use sai_types::{Caps, Hops, Kind, Vid};
+use sai_types::{Caps, Hops, KINDS, Kind, KindCounts, Vid};
 use std::alloc::Global;
 use std::process::Abort;
 use switch_model::Wait;
@@ -249,18 +249,18 @@ fn names_stand_as_the_steps_made_them(rt: HostRuntime) {
 }
 
 /// A need of so many VLANs and routes.
-fn need(vlans: u64, routes: u64) -> [u64; 11] {
-    let mut need = [0; 11];
-    need[1] = vlans;
-    need[10] = routes;
+fn need(vlans: u64, routes: u64) -> KindCounts {
+    let mut need = [0; KINDS];
+    need[Kind::Vlan.index()] = vlans;
+    need[Kind::Route.index()] = routes;
     need
 }
 
 #[test]
 fn room_is_reserved_by_worker(rt: HostRuntime) {
-    let mut caps = [1_000; 11];
-    caps[1] = 10;
-    caps[10] = 4;
+    let mut caps = [1_000; KINDS];
+    caps[Kind::Vlan.index()] = 10;
+    caps[Kind::Route.index()] = 4;
     let mut room = Room::new(Caps(caps));
     // The worker, what it needs and what is used, of VLANs and of routes, and the answer.
     let tries: [(u32, (u64, u64), (u64, u64), Option<Kind>); 7] = [
