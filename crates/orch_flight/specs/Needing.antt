@@ -18,7 +18,8 @@ use Rattle.ref_counts.specs.declared.name.NameState.{NameState}
 use Rattle.ref_counts.specs.declared.name.NameState.TheVariants as state
 use Rattle.ref_counts.specs.Registered.{Registered, first_of, least_worker, lesser, pins_but}
 use Rattle.ref_counts.specs.Registry.{Names, owner_in, registered_at, state_of, users_of}
-use Rattle.ref_counts.specs.Room.{RoomState, kinds, lacking}
+use Rattle.sai_types.specs.Kinds.{all_kinds}
+use Rattle.ref_counts.specs.Room.{RoomState, lacking}
 
 -- the name under which the registry keeps what belongs to an owner
 abbrev pub name_for : Owner → Name
@@ -90,7 +91,7 @@ to_build plan names k (Some r) = first_absent names (uses plan k r)
 
 -- how many objects of each kind changes make
 abbrev pub places_for : List Change → List ℕ
-places_for due = map (λ kind. makes kind due) kinds
+places_for due = map (λ kind. makes kind due) all_kinds
 
 -- the first kind of which there is too little room for what the operation makes
 abbrev pub crowded_for : Ports → Names → RoomState → List ℕ → Key → Option Row → Option Row → Option Wait

@@ -6,13 +6,14 @@ use Rattle.std.proofs.lemmas.Bool.Decides.{nat_tests}
 use Rattle.std.proofs.lemmas.Option.{none-some}
 use Rattle.sai_types.specs.declared.kind.Kind.{Kind}
 use Rattle.sai_types.specs.declared.kind.Kind.TheVariants as kind
+use Rattle.sai_types.specs.Kinds.{all_kinds}
 use Rattle.sai_types.specs.Objects.{level}
 use Rattle.sai_types.specs.Refusal.{capacity_of}
 use Rattle.sai_types.proofs.Levels.{level_within}
-use Rattle.ref_counts.specs.Room.{IsWithin, RoomState, first_lacking, kinds, lacking, lacks, number_of_kind, places_by, places_in_all}
+use Rattle.ref_counts.specs.Room.{IsWithin, RoomState, first_lacking, lacking, lacks, number_of_kind, places_by, places_in_all}
 
 -- what holds of each kind of the list holds of each kind
-each_kind : (P : Kind → Type 0) → AllByRecursion P kinds → (k : Kind) → P k
+each_kind : (P : Kind → Type 0) → AllByRecursion P all_kinds → (k : Kind) → P k
 each_kind P h kind.Port = h.0
 each_kind P h kind.Vlan = h.1.0
 each_kind P h kind.BridgePort = h.1.1.0
@@ -54,7 +55,7 @@ within_after n c u a h le = grind (arith, nat_tests)
 
 -- where no room is lacking, what is needed fits beside what is reserved
 pub all_fits : (room : RoomState) (need used : List ℕ) → IsWithin room → lacking room need used ≡ None → (k : Kind) → places_in_all room.reserved k + number_of_kind need k ≤ capacity_of room.capacities k
-all_fits room need used within none k = within_after (number_of_kind need k) (capacity_of room.capacities k) (number_of_kind used k) (places_in_all room.reserved k) (each_kind (λ k. lacks room need used k ≡ false) (none_lacks room need used kinds none) k) (within k)
+all_fits room need used within none k = within_after (number_of_kind need k) (capacity_of room.capacities k) (number_of_kind used k) (places_in_all room.reserved k) (each_kind (λ k. lacks room need used k ≡ false) (none_lacks room need used all_kinds none) k) (within k)
 
 four : (w : ℕ) → w < 4 → (w ≡ 0) ⊎ ((w ≡ 1) ⊎ ((w ≡ 2) ⊎ (w ≡ 3)))
 four zero lt = inl refl

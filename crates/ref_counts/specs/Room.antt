@@ -1,7 +1,7 @@
 -- The room on a chip, and the places that are reserved of it. Own.
 use Rattle.std.specs.Prelude.{◌≡◌, ℕ, ◌+◌, ◌*◌, ◌≤◌, nat_lt, Bool, ◌&&◌, List, [], ◌∷◌, replicate, slice_index, Option, Some, None, if◌then◌else◌}
 use Rattle.sai_types.specs.declared.kind.Kind.{Kind}
-use Rattle.sai_types.specs.declared.kind.Kind.TheVariants as kind
+use Rattle.sai_types.specs.Kinds.{all_kinds}
 use Rattle.sai_types.specs.Objects.{level}
 use Rattle.sai_types.specs.Refusal.{capacity_of}
 
@@ -9,9 +9,6 @@ use Rattle.sai_types.specs.Refusal.{capacity_of}
 pub record RoomState : Type 0 where
   pub capacities : List ℕ
   pub reserved : List ℕ
-
-abbrev pub kinds : List Kind
-kinds = kind.Port ∷ kind.Vlan ∷ kind.BridgePort ∷ kind.VlanMember ∷ kind.Rif ∷ kind.OwnAddress ∷ kind.Neighbor ∷ kind.NextHop ∷ kind.Group ∷ kind.GroupMember ∷ kind.Route ∷ []
 
 -- room of which nothing is reserved
 abbrev pub all_free : List ℕ → RoomState
@@ -39,7 +36,7 @@ first_lacking room need used (k ∷ ks) = if lacks room need used k then Some k 
 
 -- the first kind of which room is lacking
 abbrev pub lacking : RoomState → List ℕ → List ℕ → Option Kind
-lacking room need used = first_lacking room need used kinds
+lacking room need used = first_lacking room need used all_kinds
 
 -- a worker has so many places more of each kind, and nothing else changes
 pub record Reserves (old : RoomState) (worker : ℕ) (need : List ℕ) (new : RoomState) : Type 0 where

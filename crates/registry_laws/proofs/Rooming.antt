@@ -10,12 +10,13 @@ use Rattle.sai_types.specs.Refusal.{capacity_of}
 use Rattle.row_layout.specs.Operations.{Change}
 use Rattle.switch_machine.specs.Flights.{MachineFlight, Machine}
 use Rattle.switch_machine.specs.Places.{AreCovered, makes, places_kept, sum_below}
-use Rattle.ref_counts.specs.Room.{RoomState, first_lacking, kinds, lacking, lacks, number_of_kind, places_in_all}
+use Rattle.sai_types.specs.Kinds.{all_kinds}
+use Rattle.ref_counts.specs.Room.{RoomState, first_lacking, lacking, lacks, number_of_kind, places_in_all}
 use Rattle.orch_flight.specs.Needing.{places_for}
 use Rattle.registry_laws.specs.Registers.{AreUsed, KnowsRoom}
 use Rattle.registry_laws.proofs.Listing.{not_some, never_none}
 
-in_kinds : (k : Kind) → IsIn k kinds
+in_kinds : (k : Kind) → IsIn k all_kinds
 in_kinds kind.Port = inl refl
 in_kinds kind.Vlan = inr (inl refl)
 in_kinds kind.BridgePort = inr (inr (inl refl))
@@ -33,7 +34,7 @@ abbrev CountUp : ℕ → List Kind → Type 0
 CountUp n [] = Unit {0}
 CountUp n (k ∷ ks) = (level k ≡ n) × CountUp (suc n) ks
 
-kinds_count : CountUp 0 kinds
+kinds_count : CountUp 0 all_kinds
 kinds_count = (refl, (refl, (refl, (refl, (refl, (refl, (refl, (refl, (refl, (refl, (refl, tt)))))))))))
 
 level_counted_up : (n : ℕ) (ks : List Kind) (k : Kind) → CountUp n ks → IsIn k ks → n ≤ level k
@@ -85,10 +86,10 @@ module _ (room : RoomState) (need numbers : List ℕ) where
           at f low (inr i) less = f low i less
 
   pub lacking_first : (k : Kind) → lacking room need numbers ≡ Some k → (Lacks k ≡ true) × ((low : Kind) → level low < level k → Lacks low ≡ false)
-  lacking_first k h = let x = first_lack 0 kinds k kinds_count h in (x.0, λ low less. x.1 low (in_kinds low) less)
+  lacking_first k h = let x = first_lack 0 all_kinds k kinds_count h in (x.0, λ low less. x.1 low (in_kinds low) less)
 
   pub lacking_none : lacking room need numbers ≡ None → (k : Kind) → Lacks k ≡ false
-  lacking_none h k = none_lack kinds k h (in_kinds k)
+  lacking_none h k = none_lack all_kinds k h (in_kinds k)
 
 -- ---- the tests as numbers
 

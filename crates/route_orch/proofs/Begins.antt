@@ -25,7 +25,8 @@ use Rattle.ref_counts.specs.declared.name.NameState.{NameState}
 use Rattle.ref_counts.specs.declared.name.NameState.TheVariants as state
 use Rattle.ref_counts.specs.Registered.{begun_to_go}
 use Rattle.ref_counts.specs.Registry.{Names, changed, state_of}
-use Rattle.ref_counts.specs.Room.{Reserves, RoomState, kinds}
+use Rattle.sai_types.specs.Kinds.{all_kinds}
+use Rattle.ref_counts.specs.Room.{Reserves, RoomState}
 use Rattle.orch_flight.specs.Needing.{absent_or, first_absent, first_unapplied, places_for, row_reason, to_build}
 use Rattle.orch_flight.specs.Sharing.{begun_by, is_absent, lacks_shared, owners_of}
 use Rattle.orch_flight.specs.Starting.{IsBegunBy, begun_names, first_due, leaving, started_names}
@@ -53,7 +54,7 @@ group_counted hops n = ap (λ m. 0 ∷ 0 ∷ 0 ∷ 0 ∷ 0 ∷ 0 ∷ 0 ∷ 0 ∷
 set_group : (hops : List Hop) (t u : Thing) → places_for (make_all (shared_things (Group hops)) (set_to t u [])) ≡ group_places hops 0
 set_group hops t u =
     places-built hops (set_to t u [])
-    ∙ (elim (same_thing t u) as (λ b. map (λ k. cond (level kind.Group == level k) 1 0 + (cond (level kind.GroupMember == level k) (length hops) 0 + makes k (if b then [] else Set u ∷ []))) kinds ≡ group_places hops 0) [ true ↦ group_counted hops 0 | false ↦ group_counted hops 0 ])
+    ∙ (elim (same_thing t u) as (λ b. map (λ k. cond (level kind.Group == level k) 1 0 + (cond (level kind.GroupMember == level k) (length hops) 0 + makes k (if b then [] else Set u ∷ []))) all_kinds ≡ group_places hops 0) [ true ↦ group_counted hops 0 | false ↦ group_counted hops 0 ])
 
 by_state : (s : NameState) (hops : List Hop) (applied : Bool) (own : List Change) → places_for own ≡ route_places (if applied then 0 else 1) → places_for (make_all (shared_things (Group hops)) own) ≡ group_places hops (if applied then 0 else 1) → places_for (built_first (absent_or (Group hops) s None) own) ≡ places_needed (is_absent s) (Some (name.Group hops)) applied
 by_state state.Absent hops applied own plain built = built

@@ -1,4 +1,5 @@
 -- the places for a group that is built and for its route
+use Rattle.sai_types.specs.Kinds.{all_kinds}
 use Rattle.std.proofs.Common.{◌≡◌, ◌+◌, ◌==◌, ℕ, true, false, cond, List, [], ◌∷◌, map, length, refl, ap, ap₂, ◌∙◌, arith}
 use Rattle.sai_types.specs.declared.kind.Kind.{Kind}
 use Rattle.sai_types.specs.declared.kind.Kind.TheVariants as kind
@@ -8,7 +9,6 @@ use Rattle.switch_model.specs.Things.{members_of}
 use Rattle.row_layout.specs.Operations.{Change, make_all}
 use Rattle.row_layout.specs.Rows.{Group}
 use Rattle.row_layout.specs.Shared.{shared_things}
-use Rattle.ref_counts.specs.Room.{kinds}
 use Rattle.switch_machine.specs.Places.{makes}
 use Rattle.orch_flight.specs.Needing.{places_for}
 
@@ -25,5 +25,5 @@ mapped_as f g h [] = refl
 mapped_as f g h (k ∷ ks) = ap₂ (λ n ns. n ∷ ns) (h k) (mapped_as f g h ks)
 
 -- those of a group before other changes
-pub places-built : (hops : List Hop) (rest : List Change) → places_for (make_all (shared_things (Group hops)) rest) ≡ map (λ k. cond (level kind.Group == level k) 1 0 + (cond (level kind.GroupMember == level k) (length hops) 0 + makes k rest)) kinds
-places-built hops rest = mapped_as (λ k. makes k (make_all (shared_things (Group hops)) rest)) (λ k. cond (level kind.Group == level k) 1 0 + (cond (level kind.GroupMember == level k) (length hops) 0 + makes k rest)) (λ k. ap (λ m. cond (level kind.Group == level k) 1 0 + m) (makes_members k hops hops rest)) kinds
+pub places-built : (hops : List Hop) (rest : List Change) → places_for (make_all (shared_things (Group hops)) rest) ≡ map (λ k. cond (level kind.Group == level k) 1 0 + (cond (level kind.GroupMember == level k) (length hops) 0 + makes k rest)) all_kinds
+places-built hops rest = mapped_as (λ k. makes k (make_all (shared_things (Group hops)) rest)) (λ k. cond (level kind.Group == level k) 1 0 + (cond (level kind.GroupMember == level k) (length hops) 0 + makes k rest)) (λ k. ap (λ m. cond (level kind.Group == level k) 1 0 + m) (makes_members k hops hops rest)) all_kinds
