@@ -1,6 +1,5 @@
 // The order of a plan's steps.
 ghost use Rattle.std.specs.Prelude.{◌≡◌};
-ghost use Rattle.sai_types.specs.Objects.{kind_of};
 ghost use Rattle.apply_order.specs.Ranks.{make_rank, remove_rank, set_rank};
 
 use sai_types::{Body, Kind, Mode};
@@ -52,33 +51,14 @@ pub struct Timed {
     pub step: PlanStep,
 }
 
-/// The kind of a body.
-pub(crate) fn kind_of<I>(body: &Body<I>) -> Kind
-    ensures { result ≡ kind_of body.now }
-{
-    match body {
-        Body::Port { .. } => Kind::Port,
-        Body::Vlan { .. } => Kind::Vlan,
-        Body::BridgePort { .. } => Kind::BridgePort,
-        Body::VlanMember { .. } => Kind::VlanMember,
-        Body::Rif { .. } => Kind::Rif,
-        Body::OwnAddress { .. } => Kind::OwnAddress,
-        Body::Neighbor { .. } => Kind::Neighbor,
-        Body::NextHop { .. } => Kind::NextHop,
-        Body::Group => Kind::Group,
-        Body::GroupMember { .. } => Kind::GroupMember,
-        Body::Route { .. } => Kind::Route,
-    }
-}
-
 /// The rank of the step that makes an object.
 pub(crate) fn make_rank<I>(mode: Mode, body: &Body<I>) -> Rank
     ensures { result ≡ make_rank mode body.now }
 {
     match (mode, body) {
-        (Mode::Cold, body) => Rank::Build(kind_of(body)),
+        (Mode::Cold, body) => Rank::Build(body.kind()),
         (Mode::Hitless, Body::Route { prefix, .. }) => Rank::MakeRoute(Reverse(prefix.len)),
-        (Mode::Hitless, body) => Rank::Make(kind_of(body)),
+        (Mode::Hitless, body) => Rank::Make(body.kind()),
     }
 }
 
@@ -88,7 +68,7 @@ pub(crate) fn set_rank<I>(body: &Body<I>) -> Rank
 {
     match body {
         Body::Route { .. } => Rank::SetRoute,
-        body => Rank::Set(kind_of(body)),
+        body => Rank::Set(body.kind()),
     }
 }
 
@@ -97,8 +77,8 @@ pub(crate) fn remove_rank<I>(mode: Mode, body: &Body<I>) -> Rank
     ensures { result ≡ remove_rank mode body.now }
 {
     match (mode, body) {
-        (Mode::Cold, body) => Rank::Clear(Reverse(kind_of(body))),
+        (Mode::Cold, body) => Rank::Clear(Reverse(body.kind())),
         (Mode::Hitless, Body::Route { prefix, .. }) => Rank::RemoveRoute(prefix.len),
-        (Mode::Hitless, body) => Rank::Remove(Reverse(kind_of(body))),
+        (Mode::Hitless, body) => Rank::Remove(Reverse(body.kind())),
     }
 }

@@ -8,13 +8,9 @@ ghost use Rattle.apply_order.specs.Places.{IsTable, Places};
 ghost use Rattle.apply_order.specs.Room.{FitTogether, has_room, is_lacking, lacking_from, old_count};
 
 use crate::places::{Partners, by_new, partner};
-use crate::ranks::kind_of;
-use sai_types::{Caps, Kind, Mode, Object, Rid, Vid};
+use sai_types::{Caps, KINDS, Kind, KindCounts, Mode, Object, Rid, Vid};
 use std::alloc::Global;
 use swss_types::OutOfMemory;
-
-/// A number of objects of each kind, in the order of `Kind`.
-type Counts = [u64; 11];
 
 /// The mode of a plan: hitless where there is room.
 pub(crate) fn mode_of(
@@ -42,24 +38,11 @@ fn fits(paired: &Partners, old: &[Object<Rid>], new: &[Object<Vid>], caps: &Caps
     requires counted { length paired.now.items ≡ length new.now }
     ensures { (known : Places) → IsTable known paired.now.items → (result ≡ true) ↔ ((kind : Kind) → old_count kind old.now + lacking_from kind known new.now 0 ≤ capacity_of caps.now.0 kind) }
 {
-    let kinds = [
-        Kind::Port,
-        Kind::Vlan,
-        Kind::BridgePort,
-        Kind::VlanMember,
-        Kind::Rif,
-        Kind::OwnAddress,
-        Kind::Neighbor,
-        Kind::NextHop,
-        Kind::Group,
-        Kind::GroupMember,
-        Kind::Route,
-    ];
-    have_room(&kinds, &held(old), &lacking(paired, new), caps)
+    have_room(&Kind::ALL, &held(old), &lacking(paired, new), caps)
 }
 
 /// Whether there is room for so many objects that are held and so many that are lacking, for each of these kinds.
-fn have_room(kinds: &[Kind], held: &Counts, lacking: &Counts, caps: &Caps) -> bool
+fn have_room(kinds: &[Kind], held: &KindCounts, lacking: &KindCounts, caps: &Caps) -> bool
     ensures { result ≡ list_all (λ kind. has_room caps.now.0 held.now lacking.now kind) kinds.now }
 {
     for kind in kinds {
@@ -71,31 +54,31 @@ fn have_room(kinds: &[Kind], held: &Counts, lacking: &Counts, caps: &Caps) -> bo
 }
 
 /// Whether there is room for the objects of one kind.
-fn has_room(kind: Kind, held: &Counts, lacking: &Counts, caps: &Caps) -> bool
+fn has_room(kind: Kind, held: &KindCounts, lacking: &KindCounts, caps: &Caps) -> bool
     ensures { result ≡ has_room caps.now.0 held.now lacking.now kind }
 {
-    let place = level(kind);
+    let place = kind.index();
     let room = caps.0[place];
     held[place] <= room && lacking[place] <= room - held[place]
 }
 
 /// How many old objects there are of each kind.
-fn held(old: &[Object<Rid>]) -> Counts
+fn held(old: &[Object<Rid>]) -> KindCounts
     ensures { (kind : Kind) → slice_index result (level kind) ≡ old_count kind old.now }
 {
-    let mut counts = [0; 11];
+    let mut counts = [0; KINDS];
     for object in old {
-        raise(&mut counts, kind_of(&object.body));
+        raise(&mut counts, object.body.kind());
     }
     counts
 }
 
 /// How many new objects of each kind are not paired.
-fn lacking(paired: &Partners, new: &[Object<Vid>]) -> Counts
+fn lacking(paired: &Partners, new: &[Object<Vid>]) -> KindCounts
     requires counted { length paired.now.items ≡ length new.now }
     ensures { (known : Places) → IsTable known paired.now.items → (kind : Kind) → slice_index result (level kind) ≡ lacking_from kind known new.now 0 }
 {
-    let mut counts = [0; 11];
+    let mut counts = [0; KINDS];
     let mut place = 0;
     for object in new {
         raise_lacking(&mut counts, object, partner(paired, place));
@@ -105,40 +88,20 @@ fn lacking(paired: &Partners, new: &[Object<Vid>]) -> Counts
 }
 
 /// One more of a new object's kind, where it is not paired.
-fn raise_lacking(counts: &mut Counts, new: &Object<Vid>, partner: Option<u64>)
+fn raise_lacking(counts: &mut KindCounts, new: &Object<Vid>, partner: Option<u64>)
     requires { slice_index counts.old (level (kind_of new.now.body)) + 1 < 2 ^ 64 }
     ensures { (k : Kind) → slice_index counts.new (level k) ≡ slice_index counts.old (level k) + (if is_lacking k new.now partner then 1 else 0) }
 {
     if partner.is_none() {
-        raise(counts, kind_of(&new.body));
+        raise(counts, new.body.kind());
     }
 }
 
 /// One more of a kind.
-fn raise(counts: &mut Counts, kind: Kind)
+fn raise(counts: &mut KindCounts, kind: Kind)
     requires { slice_index counts.old (level kind) + 1 < 2 ^ 64 }
     ensures { (k : Kind) → slice_index counts.new (level k) ≡ slice_index counts.old (level k) + (if level kind == level k then 1 else 0) }
 {
-    let place = level(kind);
+    let place = kind.index();
     counts[place] += 1;
-}
-
-/// The place of a kind in the chip's table.
-fn level(kind: Kind) -> usize
-    ensures value { result ≡ level kind }
-    ensures within { result ≤ 10 }
-{
-    match kind {
-        Kind::Port => 0,
-        Kind::Vlan => 1,
-        Kind::BridgePort => 2,
-        Kind::VlanMember => 3,
-        Kind::Rif => 4,
-        Kind::OwnAddress => 5,
-        Kind::Neighbor => 6,
-        Kind::NextHop => 7,
-        Kind::Group => 8,
-        Kind::GroupMember => 9,
-        Kind::Route => 10,
-    }
 }
