@@ -1,17 +1,33 @@
 // How a plan names objects.
 ghost use Rattle.std.specs.Prelude.{◌≡◌, IfOk, OnOk, option_copied, slice_get};
-ghost use Rattle.chip_layout.specs.Renamed.{body_renamed, on_renamed, to_renamed};
+ghost use Rattle.chip_layout.specs.Renamed.{body_renamed, to_renamed};
 ghost use Rattle.plan_laws.specs.Calls.{old_entry};
 ghost use Rattle.apply_order.specs.Naming.{names_in, new_id, with_entries, with_objects};
 
+use chip_layout::{NewIds, body_with_ids, to_with_ids};
 use late_maps::LateMap;
-use sai_types::{Body, Entry, Mode, Object, PlanId, Rid, RifOn, To, Vid};
+use sai_types::{Body, Entry, Mode, Object, PlanId, Rid, To, Vid};
 use std::alloc::Global;
 use swss_types::OutOfMemory;
 
 /// By the number of a new identifier that of the old object, where a plan names it so. New identifiers mostly come in
 /// their order.
 pub(crate) type Names = LateMap<u64, Rid>;
+
+/// How a plan names new objects, by the names of the paired ones.
+#[derive(Clone, Copy)]
+struct NewNames<'a>(&'a Names);
+
+impl NewIds<Vid, PlanId> for NewNames<'_> {
+    ghost new_id = { λ names. new_id names.0.now };
+
+    fn new_id(&self, id: Vid) -> PlanId {
+        match self.0.get(&id.0) {
+            Some(old) => PlanId::Old(*old),
+            None => PlanId::New(id),
+        }
+    }
+}
 
 /// The names of paired objects: a cold plan names none.
 pub(crate) fn names_in(
@@ -72,14 +88,18 @@ fn put_entries(names: &mut Names, old: &Entry<Rid>, new: &Entry<Vid>) -> Result<
     }
 }
 
-/// The name of a new object.
-pub(crate) fn new_id(names: &Names, id: Vid) -> PlanId
-    ensures { result ≡ new_id names.now id }
+/// Where a route points, as a plan names it.
+pub(crate) fn new_to(names: &Names, to: To<Vid>) -> To<PlanId>
+    ensures { result ≡ to_renamed (new_id names.now) to }
 {
-    match names.get(&id.0) {
-        Some(old) => PlanId::Old(*old),
-        None => PlanId::New(id),
-    }
+    to_with_ids(&NewNames(names), to)
+}
+
+/// A new body, as a plan names what it refers to.
+pub(crate) fn new_body(names: &Names, body: &Body<Vid>) -> Result<Body<PlanId>, OutOfMemory>
+    ensures { IfOk result (λ named. named ≡ body_renamed (new_id names.now) body.now) }
+{
+    body_with_ids(&NewNames(names), body)
 }
 
 /// The entry of an old object, as a plan names it.
@@ -92,80 +112,4 @@ pub(crate) fn old_entry(entry: &Entry<Rid>) -> Entry<PlanId>
         Entry::Neigh(rif, ip) => Entry::Neigh(PlanId::Old(*rif), *ip),
         Entry::Route(prefix) => Entry::Route(*prefix),
     }
-}
-
-/// What a new router interface stands on, as a plan names it.
-fn new_on(names: &Names, on: RifOn<Vid>) -> RifOn<PlanId>
-    ensures { result ≡ on_renamed (new_id names.now) on }
-{
-    match on {
-        RifOn::Port(port) => RifOn::Port(new_id(names, port)),
-        RifOn::Vlan(vlan) => RifOn::Vlan(new_id(names, vlan)),
-    }
-}
-
-/// A route's target, as a plan names it.
-pub(crate) fn new_to(names: &Names, to: To<Vid>) -> To<PlanId>
-    ensures { result ≡ to_renamed (new_id names.now) to }
-{
-    match to {
-        To::Drop => To::Drop,
-        To::Rif(rif) => To::Rif(new_id(names, rif)),
-        To::NextHop(next_hop) => To::NextHop(new_id(names, next_hop)),
-        To::Group(group) => To::Group(new_id(names, group)),
-    }
-}
-
-/// A new body, as a plan names what it refers to.
-pub(crate) fn new_body(names: &Names, body: &Body<Vid>) -> Result<Body<PlanId>, OutOfMemory>
-    ensures { IfOk result (λ named. named ≡ body_renamed (new_id names.now) body.now) }
-{
-    Ok(match body {
-        Body::Port {
-            lanes,
-            speed,
-            mtu,
-            up,
-        } => Body::Port {
-            lanes: lanes.copy()?,
-            speed: *speed,
-            mtu: *mtu,
-            up: *up,
-        },
-        Body::Vlan { vlan } => Body::Vlan { vlan: *vlan },
-        Body::BridgePort { port } => Body::BridgePort {
-            port: new_id(names, *port),
-        },
-        Body::VlanMember {
-            vlan,
-            bridge_port,
-            tagging,
-        } => Body::VlanMember {
-            vlan: new_id(names, *vlan),
-            bridge_port: new_id(names, *bridge_port),
-            tagging: *tagging,
-        },
-        Body::Rif { on } => Body::Rif {
-            on: new_on(names, *on),
-        },
-        Body::OwnAddress { ip } => Body::OwnAddress { ip: *ip },
-        Body::Neighbor { rif, ip, mac } => Body::Neighbor {
-            rif: new_id(names, *rif),
-            ip: *ip,
-            mac: *mac,
-        },
-        Body::NextHop { rif, ip } => Body::NextHop {
-            rif: new_id(names, *rif),
-            ip: *ip,
-        },
-        Body::Group => Body::Group,
-        Body::GroupMember { group, next_hop } => Body::GroupMember {
-            group: new_id(names, *group),
-            next_hop: new_id(names, *next_hop),
-        },
-        Body::Route { prefix, to } => Body::Route {
-            prefix: *prefix,
-            to: new_to(names, *to),
-        },
-    })
 }

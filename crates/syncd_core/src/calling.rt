@@ -8,8 +8,9 @@ ghost use Rattle.syncd_core.specs.Synced.{Changes, IsMadeOnChip, answer_made};
 ghost use Rattle.syncd_core.specs.Tied.{tie_of};
 
 use crate::made::{Made, make};
-use crate::naming::tied_call;
+use crate::naming::ChipIds;
 use asic_view::{View, taken_back_is_unmade};
+use chip_layout::call_with_ids;
 use sai_types::{Body, Call, Chip, Rid, SyncAnswer, Vid};
 use swss_types::OutOfMemory;
 
@@ -58,7 +59,7 @@ pub(crate) fn call_chip<C: Chip>(
     ensures err { OnErr result (view.new.objects ≡ view.old.objects) }
     ensures unmade { OnErr result (IsAskedOnce (C.state chip.old) (C.state chip.new)) }
 {
-    let tied = tied_call(view, call)?;
+    let tied = call_with_ids(&ChipIds(view), call)?;
     match call {
         Call::Create(body) => create(view, chip, &tied, body),
         Call::Set(entry, attr) => match make(chip, &tied)? {

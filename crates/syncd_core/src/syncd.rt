@@ -15,10 +15,12 @@ use crate::answer::{ApplyStep, Listed};
 use crate::beginning::begin;
 use crate::calling::{call_chip, call_view};
 use crate::made::{Made, make};
-use crate::naming::tied_call;
+use crate::naming::ChipIds;
 use asic_view::View;
+use chip_layout::call_with_ids;
 use sai_types::{
-    Call, Caps, Chip, Kind, ListAnswer, Mode, Object, PlanCall, PlanCalls, Rid, SyncAnswer, Vid,
+    Call, Caps, Chip, Kind, KindCounts, ListAnswer, Mode, Object, PlanCall, PlanCalls, Rid,
+    SyncAnswer, Vid,
 };
 use std::alloc::Global;
 use std::marker::Model;
@@ -124,7 +126,7 @@ impl Syncd {
 
     /// How many objects of each kind there are, in the order of the kinds, in the temporary view, where one is built, and
     /// otherwise in the view that stands for the chip.
-    pub fn counts(&self) -> [u64; 11]
+    pub fn counts(&self) -> KindCounts
         ensures { (k : Kind) → slice_index result (level k) ≡ used_of (current self.now) k }
     {
         match &self.temporary {
@@ -186,7 +188,7 @@ impl Syncd {
         ensures { IfOk result (λ next. next ≡ next_call self.now.left self.now.view) }
     {
         match self.plan.items().get(self.made) {
-            Some(next) => Ok(Some(tied_call(&self.view, &next.call)?)),
+            Some(next) => Ok(Some(call_with_ids(&ChipIds(&self.view), &next.call)?)),
             None => Ok(None),
         }
     }
@@ -239,7 +241,7 @@ fn apply<C: Chip>(view: &mut View, chip: &mut C, next: &PlanCall) -> Result<Made
     ensures err { OnErr result (view.new.objects ≡ view.old.objects) }
     ensures unmade { OnErr result (IsAskedOnce (C.state chip.old) (C.state chip.new)) }
 {
-    let call = tied_call(view, &next.call)?;
+    let call = call_with_ids(&ChipIds(view), &next.call)?;
     let made = make(chip, &call)?;
     if let Made::Object(rid) = made {
         tie_made(view, next.makes, rid);
