@@ -28,19 +28,20 @@ pub enum Key {
 
 impl Key {
     /// The same key once more.
+    #[inline(always)]
     pub fn copy(&self) -> Result<Key, OutOfMemory>
         ensures { IfOk result (λ key. key ≡ self.now) }
     {
-        Ok(match self {
-            Key::Port(port) => Key::Port(*port),
-            Key::Vlan(vlan) => Key::Vlan(*vlan),
-            Key::Member(vlan, port) => Key::Member(*vlan, *port),
-            Key::Intf(on) => Key::Intf(*on),
-            Key::Addr(on, ip, len) => Key::Addr(*on, *ip, *len),
-            Key::Neigh(on, ip) => Key::Neigh(*on, *ip),
-            Key::Route(prefix) => Key::Route(*prefix),
-            Key::Other(text) => Key::Other(text.copy()?),
-        })
+        match self {
+            Key::Port(port) => Ok(Key::Port(*port)),
+            Key::Vlan(vlan) => Ok(Key::Vlan(*vlan)),
+            Key::Member(vlan, port) => Ok(Key::Member(*vlan, *port)),
+            Key::Intf(on) => Ok(Key::Intf(*on)),
+            Key::Addr(on, ip, len) => Ok(Key::Addr(*on, *ip, *len)),
+            Key::Neigh(on, ip) => Ok(Key::Neigh(*on, *ip)),
+            Key::Route(prefix) => Ok(Key::Route(*prefix)),
+            Key::Other(text) => Ok(Key::Other(text.copy()?)),
+        }
     }
 
     /// The place of the key's table among the tables, and the last for no table.
@@ -74,6 +75,11 @@ impl Key {
             (Key::Port(port), Key::Port(than)) => port.cmp(than),
             (Key::Member(vlan, port), Key::Member(than, than_port)) => match vlan.cmp(than) {
                 Ordering::Equal => port.cmp(than_port),
+                order => order,
+            },
+            (Key::Intf(on), Key::Intf(than)) => on.cmp(than),
+            (Key::Neigh(on, ip), Key::Neigh(than, than_ip)) => match on.cmp(than) {
+                Ordering::Equal => ip.cmp(than_ip),
                 order => order,
             },
             _ => self.cmp_parts(other),
