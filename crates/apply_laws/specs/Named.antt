@@ -29,7 +29,7 @@ InBody P (body.VlanMember i j tagging) = P i × P j
 InBody P (body.Rif on) = InOn P on
 InBody P (body.Neighbor i ip mac) = P i
 InBody P (body.NextHop i ip) = P i
-InBody P (body.GroupMember i j) = P i × P j
+InBody P (body.GroupMember i j weight) = P i × P j
 InBody P (body.Route prefix to) = InTo P to
 InBody P _ = Unit {0}
 

@@ -1,6 +1,5 @@
 -- packets have one answer
 use Rattle.std.proofs.Common.{◌≡◌, ◌⊎◌, inl, inr, ℕ, ◌≤◌, Bool, true, false, List, [], ◌∷◌, map, Option, None, Some, is_some, option_map, if◌then◌else◌, refl, sym, ap, ap₂, ◌∙◌, subst}
-use Rattle.std.specs.BTreeSet.{insert_key}
 use Rattle.std.proofs.lemmas.Bool.{and_parts, false≢true}
 use Rattle.std.proofs.lemmas.Option.{same_Some}
 use Rattle.swss_types.specs.Address.{IsProperPrefix}
@@ -12,6 +11,7 @@ use Rattle.swss_types.proofs.Proper.{mapped}
 use Rattle.sai_types.specs.contracts.hop.HopEq.TheImpl.Laws as equal_hop
 use Rattle.sai_types.specs.declared.ids.Rid.{Rid}
 use Rattle.sai_types.specs.declared.hop.Hop.{Hop}
+use Rattle.sai_types.specs.declared.weight.WHop.{WHop}
 use Rattle.sai_types.specs.declared.body.Body.{Body}
 use Rattle.sai_types.specs.declared.body.Body.TheVariants as body
 use Rattle.sai_types.specs.declared.body.Entry.{Entry}
@@ -25,21 +25,22 @@ use Rattle.sai_types.specs.declared.thing.Thing.TheVariants as thing
 use Rattle.sai_types.specs.After.{entry_of}
 use Rattle.sai_types.specs.Alike.{IsIn}
 use Rattle.sai_types.specs.Decided.{AreRoutes, DecideAlike}
-use Rattle.sai_types.specs.Forwarding.{Decision, best_route, decide, decide_route, decision_of, forward, forwarding_of, has_own, hop_mac, same_hop}
+use Rattle.sai_types.specs.Forwarding.{Decision, alone, best_route, decide, decide_route, decision_of, forward, forwarding_of, has_own, hop_mac, same_hop}
 use Rattle.sai_types.specs.Forwarding as decision
 use Rattle.sai_types.specs.Made.{HaveLanes, IsWhole, is_one, same_entry}
-use Rattle.sai_types.specs.Named.{base_on, both, bridge_port_at, goal_by, hop_cmp, hop_on, hops_among, hops_at, named, next_hop_at, port_at, rif_at, those, thing_of, things_among, vlan_at, with_member}
+use Rattle.sai_types.specs.Named.{base_on, both, bridge_port_at, goal_by, hop_on, hops_among, hops_at, named, next_hop_at, port_at, put_hop, rif_at, those, thing_of, things_among, vlan_at, whop_at, with_member}
 use Rattle.sai_types.specs.Names.{name_of}
 use Rattle.sai_types.specs.Objects.{Objects, body_at}
 use Rattle.sai_types.specs.Refusal.{same_id}
 use Rattle.sai_types.proofs.Decided.{IsAnswer, IsBest, answer_is, decide-alike}
 use Rattle.sai_types.proofs.Keys.{next_hop_found}
-use Rattle.sai_types.proofs.Things.{both_mapped, one-each}
+use Rattle.sai_types.proofs.Things.{both_mapped, hop-of_whop, one-each}
 use Rattle.chip_layout.specs.Answered.{AreSame, HasOneMac, HasPrefix, HavePrefixes, HopsAreReached}
 use Rattle.chip_layout.proofs.Legality.{neighs}
 use Rattle.sai_types.proofs.Exact.{entry-exact}
 use Rattle.sai_types.proofs.Listed.{found-in, in-found, object-of_thing}
-use Rattle.sai_types.proofs.Rising.{hop-same, hop_exact, hop_total, in-back}
+use Rattle.sai_types.proofs.Rising.{hop-same}
+use Rattle.sai_types.proofs.Weights.{put-back}
 
 -- ---- things and the objects that stand for them
 
@@ -87,7 +88,7 @@ route_object objects (entry.Oid r) body.Group p g h = let is = (mapped thing.Gro
 route_object objects (entry.Own ip) body.Group p g h = absurd cc
 route_object objects (entry.Neigh r ip) body.Group p g h = absurd cc
 route_object objects (entry.Route q) body.Group p g h = absurd cc
-route_object objects e (body.GroupMember r n) p g h = let is = (both_mapped thing.GroupMember (hops_at objects r) (next_hop_at objects n) _ h).4 in absurd cc
+route_object objects e (body.GroupMember r n weight) p g h = let is = (both_mapped thing.GroupMember (hops_at objects r) (whop_at objects n weight) _ h).4 in absurd cc
 
 -- ---- the Ethernet address of a hop
 
@@ -126,29 +127,29 @@ module _ (objects : Objects) where
   abbrev IsNamed : Hop → Type 0
   IsNamed hop = (n : Rid) × (next_hop_at objects n ≡ Some hop)
 
-  member_by : (b : Bool) (n : Rid) (others : Option (List Hop)) (hops : List Hop) (hop : Hop) → ((xs : List Hop) → others ≡ Some xs → IsIn hop xs → IsNamed hop) → (if b then both (insert_key hop_cmp) others (next_hop_at objects n) else others) ≡ Some hops → IsIn hop hops → IsNamed hop
-  member_by false n others hops hop behind is h = behind hops is h
-  member_by true n others hops hop behind is h =
-      let m = both_mapped (insert_key hop_cmp) others (next_hop_at objects n) hops is in
-      by m.0 m.1 m.2 m.3 (in-back hop_cmp hop_total hop_exact m.0 m.1 hop (subst (IsIn hop) (sym m.4) h))
+  member_by : (b : Bool) (n : Rid) (weight : ℕ) (others : Option (List WHop)) (hops : List WHop) (whop : WHop) → ((xs : List WHop) → others ≡ Some xs → IsIn whop xs → IsNamed whop.hop) → (if b then both put_hop others (whop_at objects n weight) else others) ≡ Some hops → IsIn whop hops → IsNamed whop.hop
+  member_by false n weight others hops whop behind is h = behind hops is h
+  member_by true n weight others hops whop behind is h =
+      let m = both_mapped put_hop others (whop_at objects n weight) hops is in
+      by m.0 m.1 m.2 m.3 (put-back m.1 whop m.0 (subst (IsIn whop) (sym m.4) h))
     where
-      by : (xs : List Hop) (x : Hop) → others ≡ Some xs → next_hop_at objects n ≡ Some x → (hop ≡ x) ⊎ IsIn hop xs → IsNamed hop
-      by xs x at here (inl is) = (n, here ∙ ap Some (sym is))
+      by : (xs : List WHop) (x : WHop) → others ≡ Some xs → whop_at objects n weight ≡ Some x → (whop.hop ≡ x.hop) ⊎ IsIn whop xs → IsNamed whop.hop
+      by xs x at here (inl is) = (n, hop-of_whop (next_hop_at objects n) weight x here ∙ ap Some (sym is))
       by xs x at here (inr g) = behind xs at g
 
-  member_step : (g : Rid) (b : Body Rid) (others : Option (List Hop)) (hops : List Hop) (hop : Hop) → ((xs : List Hop) → others ≡ Some xs → IsIn hop xs → IsNamed hop) → with_member objects g b others ≡ Some hops → IsIn hop hops → IsNamed hop
-  member_step g (body.GroupMember group n) others hops hop behind is h = member_by (same_id group g) n others hops hop behind is h
+  member_step : (g : Rid) (b : Body Rid) (others : Option (List WHop)) (hops : List WHop) (whop : WHop) → ((xs : List WHop) → others ≡ Some xs → IsIn whop xs → IsNamed whop.hop) → with_member objects g b others ≡ Some hops → IsIn whop hops → IsNamed whop.hop
+  member_step g (body.GroupMember group n weight) others hops whop behind is h = member_by (same_id group g) n weight others hops whop behind is h
   member_step g (body.Port lanes speed mtu up) others hops hop behind is h = behind hops is h
   member_step g _ others hops hop behind is h = behind hops is h
 
-  hop_among : (g : Rid) (os : Objects) (hops : List Hop) (hop : Hop) → hops_among objects g os ≡ Some hops → IsIn hop hops → IsNamed hop
+  hop_among : (g : Rid) (os : Objects) (hops : List WHop) (hop : WHop) → hops_among objects g os ≡ Some hops → IsIn hop hops → IsNamed hop.hop
   hop_among g [] hops hop is h = elim (subst (IsIn hop) (sym (same_Some [] hops is)) h) [ ]
   hop_among g (o ∷ os) hops hop is h = member_step g o.1 (hops_among objects g os) hops hop (λ xs at i. hop_among g os xs hop at i) is h
 
   -- the hops that a goal sends packets through
   abbrev AreGoalHops : Goal → Type 0
   AreGoalHops (goal.Via hop) = IsNamed hop
-  AreGoalHops (goal.Group hops) = (hop : Hop) → IsIn hop hops → IsNamed hop
+  AreGoalHops (goal.Group hops) = (hop : WHop) → IsIn hop hops → IsNamed hop.hop
   AreGoalHops _ = Unit {0}
 
   goal_hops : (t : To Rid) (g : Goal) → goal_by (hops_at objects) objects t ≡ Some g → AreGoalHops g
@@ -234,10 +235,10 @@ module _ (made : ℕ) (objects : Objects) (whole : IsWhole made objects) (have :
       reached_by (goal.Direct on) at = tt
       reached_by (goal.Via hop) at = λ x h. only x h
         where
-          only : (x : Hop) → (x ≡ hop) ⊎ ⊥ → HasOneMac others x
-          only x (inl is) = subst (HasOneMac others) (sym is) (one_mac hop at)
+          only : (x : WHop) → (x ≡ alone hop) ⊎ ⊥ → HasOneMac others x.hop
+          only x (inl is) = subst (λ (z : WHop). HasOneMac others z.hop) (sym is) (one_mac hop at)
           only x (inr h) = elim h [ ]
-      reached_by (goal.Group hops) at = λ hop h. one_mac hop (at hop h)
+      reached_by (goal.Group hops) at = λ hop h. one_mac hop.hop (at hop h)
 
       reached_route : (a : Packet) (o : Option (Prefix × Goal)) → best_route stand a ≡ o → HopsAreReached others (decide_route o)
       reached_route a None e = tt
@@ -266,16 +267,16 @@ module _ (made : ℕ) (objects : Objects) (whole : IsWhole made objects) (have :
       pub hops-reached : (a : Packet) → HopsAreReached others (decide others a)
       hops-reached a = subst (HopsAreReached others) (sym (decided-once a)) (reached_own a (has_own stand a))
 
-      with_mac : Hop → Option Mac → List (Hop × Option Mac) → List (Hop × Option Mac)
+      with_mac : WHop → Option Mac → List (WHop × Option Mac) → List (WHop × Option Mac)
       with_mac hop m ms = (hop, m) ∷ ms
 
-      macs : (hops : List Hop) → ((hop : Hop) → IsIn hop hops → HasOneMac others hop) → ((hop : Hop) → IsIn hop hops → HasOneMac stand hop) → map {B = Hop × Option Mac} (λ h. (h, hop_mac others h)) hops ≡ map {B = Hop × Option Mac} (λ h. (h, hop_mac stand h)) hops
+      macs : (hops : List WHop) → ((hop : WHop) → IsIn hop hops → HasOneMac others hop.hop) → ((hop : WHop) → IsIn hop hops → HasOneMac stand hop.hop) → map {B = WHop × Option Mac} (λ h. (h, hop_mac others h.hop)) hops ≡ map {B = WHop × Option Mac} (λ h. (h, hop_mac stand h.hop)) hops
       unfolding with_mac
       macs [] f g = refl
       macs (hop ∷ hops) f g =
           let x = f hop (inl refl) in
           let y = g hop (inl refl) in
-          let same_mac = x.found ∙ ap Some (sym (x.one y.mac (same.into (thing.Neighbor hop y.mac) y.stands))) ∙ sym y.found in
+          let same_mac = x.found ∙ ap Some (sym (x.one y.mac (same.into (thing.Neighbor hop.hop y.mac) y.stands))) ∙ sym y.found in
           ap₂ (with_mac hop) same_mac (macs hops (λ h i. f h (inr i)) (λ h i. g h (inr i)))
 
     here : AreSame stand stand

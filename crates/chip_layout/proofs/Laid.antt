@@ -24,7 +24,7 @@ use Rattle.chip_layout.specs.Layout.{Has, IsLaidOut, Layout}
 use Rattle.chip_layout.proofs.Bodies.{at-route}
 use Rattle.chip_layout.proofs.Entries.{goal-stands, one-id, one-name}
 use Rattle.sai_types.proofs.Exact.{id-exact, ip-exact, prefix-exact}
-use Rattle.sai_types.proofs.Things.{rifs}
+use Rattle.sai_types.proofs.Things.{groups, next_hops, rifs}
 
 module _ (layout : Layout Rid) (objects : Objects) (laid : IsLaidOut layout objects) where
   same_name : (k l : ThingName) (i j : Rid) → is_numbered (name_kind k) ≡ true → is_numbered (name_kind l) ≡ true → Has layout k i → Has layout l j → same_id i j ≡ true → k ≡ l
@@ -57,8 +57,9 @@ module _ (layout : Layout Rid) (objects : Objects) (laid : IsLaidOut layout obje
   meet_by (thing.NextHop x) (thing.NextHop y) i j k l a b c d h = inl (ap name.NextHop (same_hop x y i k a c h))
   meet_by (thing.GroupMember x m) (thing.GroupMember y n) i j k l a b c d h =
       let parts = and_parts (same_id i k) (same_id j l) h in
-      let groups = same_name (name.Group x) (name.Group y) i k refl refl a c parts.0 in
-      let hops = same_name (name.NextHop m) (name.NextHop n) j l refl refl b d parts.1 in inl cc
+      let same_groups = same_name (name.Group x) (name.Group y) i k refl refl a c parts.0 in
+      let same_hops = same_name (name.NextHop m.hop) (name.NextHop n.hop) j l refl refl b d parts.1 in
+      inr (groups x y same_groups, next_hops m.hop n.hop same_hops)
   meet_by (thing.Route x m) (thing.Route y n) i j k l a b c d h = inl (ap name.Route (prefix-exact x y h))
   meet_by _ _ i j k l a b c d h = absurd (false≢true h)
 
@@ -76,7 +77,7 @@ module _ (layout : Layout Rid) (objects : Objects) (laid : IsLaidOut layout obje
   body_one (thing.Rif (base.Vlan v)) i j k l a b c d = ap (λ x. body_with (thing.Rif (base.Vlan v)) x x) (one-id layout objects laid _ i k a c)
   body_one (thing.Neighbor hop mac) i j k l a b c d = ap (λ x. body.Neighbor x hop.ip mac) (one-id layout objects laid _ i k a c)
   body_one (thing.NextHop hop) i j k l a b c d = ap (λ x. body.NextHop x hop.ip) (one-id layout objects laid _ i k a c)
-  body_one (thing.GroupMember hops hop) i j k l a b c d = ap₂ body.GroupMember (one-id layout objects laid _ i k a c) (one-id layout objects laid _ j l b d)
+  body_one (thing.GroupMember hops hop) i j k l a b c d = ap₂ (λ x y. body.GroupMember x y hop.weight) (one-id layout objects laid _ i k a c) (one-id layout objects laid _ j l b d)
   body_one (thing.Route prefix goal.Drop) i j k l a b c d = refl
   body_one (thing.Route prefix (goal.Direct on)) i j k l a b c d = ap (λ x. body_with (thing.Route prefix (goal.Direct on)) x x) (one-id layout objects laid _ i k a c)
   body_one (thing.Route prefix (goal.Via hop)) i j k l a b c d = ap (λ x. body_with (thing.Route prefix (goal.Via hop)) x x) (one-id layout objects laid _ i k a c)

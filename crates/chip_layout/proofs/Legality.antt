@@ -197,7 +197,7 @@ module _ (f : Rid → Rid) where
     clash_same (body.Rif a) (body.Rif b) = base_same a b
     clash_same (body.Neighbor r ip mac) (body.Neighbor s other mac') = ap (λ x. x && same_ip ip other) (id_same r s)
     clash_same (body.NextHop r ip) (body.NextHop s other) = ap (λ x. x && same_ip ip other) (id_same r s)
-    clash_same (body.GroupMember g n) (body.GroupMember h m) = ap₂ (λ x y. x && y) (id_same g h) (id_same n m)
+    clash_same (body.GroupMember g n v) (body.GroupMember h m w) = ap₂ (λ x y. x && y) (id_same g h) (id_same n m)
     clash_same _ _ = refl
 
     stands_same : (r : Reference Rid) → stands others (reference_renamed r) ≡ stands objects r

@@ -1,13 +1,13 @@
 -- what the objects of things that stand are named
 use Rattle.std.proofs.Common.{◌≡◌, ◌⊎◌, inl, inr, ℕ, Bool, true, false, List, [], ◌∷◌, Option, Some, option_map, if◌then◌else◌, refl, sym, ap, ap₂, ◌∙◌, subst}
 use Rattle.std.specs.BTreeSet.{insert_key}
-use Rattle.std.specs.List.Sorted.{IsStrictlySortedBy}
-use Rattle.std.proofs.lemmas.Bool.{false≢true}
+use Rattle.std.proofs.lemmas.Bool.{and_from, eq-eqb, false≢true}
 use Rattle.std.proofs.lemmas.Option.{same_Some}
 use Rattle.sai_types.specs.declared.ids.Rid.{Rid}
 use Rattle.sai_types.specs.declared.hop.Base.{Base}
 use Rattle.sai_types.specs.declared.hop.Base.TheVariants as base
 use Rattle.sai_types.specs.declared.hop.Hop.{Hop}
+use Rattle.sai_types.specs.declared.weight.WHop.{WHop}
 use Rattle.sai_types.specs.declared.body.Body.{Body}
 use Rattle.sai_types.specs.declared.body.Body.TheVariants as body
 use Rattle.sai_types.specs.declared.body.Entry.{Entry}
@@ -17,10 +17,11 @@ use Rattle.sai_types.specs.declared.thing.Thing.{Thing}
 use Rattle.sai_types.specs.declared.thing.Thing.TheVariants as thing
 use Rattle.sai_types.specs.After.{entry_of}
 use Rattle.sai_types.specs.Alike.{IsAlike, IsIn, IsOnceIn}
-use Rattle.sai_types.specs.Made.{IsWhole, same_entry}
+use Rattle.sai_types.specs.Hop.{AreRisingHops, put_hop, whop_cmp}
+use Rattle.sai_types.specs.Made.{AreApart, IsWhole, same_entry}
 use Rattle.sai_types.specs.Objects.{Objects, body_at}
-use Rattle.sai_types.specs.Named.{both, bridge_port_at, bridge_port_of, first_lane, hop_cmp, hop_on, hops_among, hops_at, named, next_hop_at, next_hop_of, port_at, body_port, rif_at, rif_of, thing_of, vlan_at, body_vlan, with_member}
-use Rattle.sai_types.specs.Refusal.{same_id}
+use Rattle.sai_types.specs.Named.{both, bridge_port_at, bridge_port_of, first_lane, hop_on, hops_among, hops_at, named, next_hop_at, next_hop_of, port_at, body_port, rif_at, rif_of, thing_of, vlan_at, body_vlan, whop_at, with_member}
+use Rattle.sai_types.specs.Refusal.{clash, same_id}
 use Rattle.sai_types.proofs.Found.{same-refl, same-symm, same-trans}
 use Rattle.sai_types.specs.Names as name
 use Rattle.sai_types.specs.Names.{ThingName, name_kind, name_of}
@@ -33,7 +34,8 @@ use Rattle.chip_layout.proofs.Bodies.{entry-body}
 use Rattle.chip_layout.proofs.Entries.{one-entry, one-id, one-name, same-entry}
 use Rattle.sai_types.proofs.Exact.{entry-exact, id-exact, ids-tied}
 use Rattle.sai_types.proofs.Listed.{found-in, in-found, object-of_thing, once-in}
-use Rattle.sai_types.proofs.Rising.{hop_exact, hop_total, in-back, in-insert, in-kept, rising-insert, same-rising}
+use Rattle.sai_types.proofs.Rising.{in-back, in-insert, in-kept, whop_exact, whop_total}
+use Rattle.sai_types.proofs.Weights.{put-fresh, rising-none, rising-put, same-hops}
 
 module _ (layout : Layout Rid) (objects : Objects) (laid : IsLaidOut layout objects) where
   record IsFound (i : Rid) (t : Thing) : Type 0 where
@@ -96,24 +98,27 @@ module _ (layout : Layout Rid) (objects : Objects) (laid : IsLaidOut layout obje
   pub next_hop_named : (hop : Hop) (i : Rid) → Has layout (name.NextHop hop) i → next_hop_at objects i ≡ Some hop
   next_hop_named hop i x = next_hop_by x.0 i hop x.1 x.2
 
+  pub whop_named : (whop : WHop) (i : Rid) → Has layout (name.NextHop whop.hop) i → whop_at objects i whop.weight ≡ Some whop
+  whop_named whop i x = ap (option_map (λ h. record { hop = h; weight = whop.weight })) (next_hop_named whop.hop i x)
+
   -- ---- the hops of a group
 
-  module _ (g : Rid) (hops : List Hop) (group : Has layout (name.Group hops) g) where
+  module _ (g : Rid) (hops : List WHop) (group : Has layout (name.Group hops) g) where
     -- an object that is no member of the group, and one that is
     abbrev IsOther : Thing → Body Rid → Type 0
-    IsOther u d = ((hop : Hop) → name_of u ≡ name.GroupMember hops hop → ⊥) × ((others : Option (List Hop)) → with_member objects g d others ≡ others)
+    IsOther u d = ((hop : WHop) → name_of u ≡ name.GroupMember hops hop → ⊥) × ((others : Option (List WHop)) → with_member objects g d others ≡ others)
 
     abbrev IsMember : Rid → Thing → Body Rid → Type 0
-    IsMember j u d = (hop : Hop) × layout j (thing.GroupMember hops hop) × (u ≡ thing.GroupMember hops hop) × ((others : Option (List Hop)) → with_member objects g d others ≡ both (insert_key hop_cmp) others (Some hop))
+    IsMember j u d = (hop : WHop) × layout j (thing.GroupMember hops hop) × (u ≡ thing.GroupMember hops hop) × ((others : Option (List WHop)) → with_member objects g d others ≡ both put_hop others (Some hop))
 
-    member_by : (t : Bool) (j : Rid) (hs : List Hop) (hop : Hop) (a c : Rid) → same_id a g ≡ t → layout j (thing.GroupMember hs hop) → Has layout (name.Group hs) a → Has layout (name.NextHop hop) c → IsOther (thing.GroupMember hs hop) (body.GroupMember a c) ⊎ IsMember j (thing.GroupMember hs hop) (body.GroupMember a c)
+    member_by : (t : Bool) (j : Rid) (hs : List WHop) (hop : WHop) (a c : Rid) → same_id a g ≡ t → layout j (thing.GroupMember hs hop) → Has layout (name.Group hs) a → Has layout (name.NextHop hop.hop) c → IsOther (thing.GroupMember hs hop) (body.GroupMember a c hop.weight) ⊎ IsMember j (thing.GroupMember hs hop) (body.GroupMember a c hop.weight)
     member_by true j hs hop a c e h x y =
         let same : hs ≡ hops = groups hs hops (one-name layout objects laid (name.Group hs) (name.Group hops) g refl refl (subst (λ z. Has layout (name.Group hs) z) (id-exact a g e) x) group) in
         inr (
           hop,
           subst (λ z. layout j (thing.GroupMember z hop)) same h,
           ap (λ z. thing.GroupMember z hop) same,
-          λ others. ap (λ b. if b then both (insert_key hop_cmp) others (next_hop_at objects c) else others) e ∙ ap (both (insert_key hop_cmp) others) (next_hop_named hop c y),
+          λ others. ap (λ b. if b then both put_hop others (whop_at objects c hop.weight) else others) e ∙ ap (both put_hop others) (whop_named hop c y),
         )
     member_by false j hs hop a c e h x y =
         inl (
@@ -121,7 +126,7 @@ module _ (layout : Layout Rid) (objects : Objects) (laid : IsLaidOut layout obje
               let same = (group_members hs hops hop other is).0 in
               let ids = one-id layout objects laid (name.Group hops) a g (subst (λ z. Has layout (name.Group z) a) same x) group in
               false≢true (sym e ∙ ap (λ r. same_id r g) ids ∙ sym (ids-tied g g) ∙ same-refl (entry.Oid g)),
-          λ others. ap (λ b. if b then both (insert_key hop_cmp) others (next_hop_at objects c) else others) e,
+          λ others. ap (λ b. if b then both put_hop others (whop_at objects c hop.weight) else others) e,
         )
 
     kind_by : (j : Rid) (u : Thing) (a c : Rid) → layout j u → IsAt (Has layout) (first_name u) a → IsAt (Has layout) (second_name u) c → IsOther u (body_with u a c) ⊎ IsMember j u (body_with u a c)
@@ -133,14 +138,28 @@ module _ (layout : Layout Rid) (objects : Objects) (laid : IsLaidOut layout obje
 
     -- the hops of the members among some objects
     pub record IsAmong (os : Objects) : Type 0 where
-      pub those : List Hop
+      pub those : List WHop
       pub is : hops_among objects g os ≡ Some those
-      pub rising : IsStrictlySortedBy hop_cmp those
-      pub sound : (hop : Hop) → IsIn hop those → (j : Rid) × layout j (thing.GroupMember hops hop)
-      pub all : (e : Entry Rid) (d : Body Rid) (j : Rid) (hop : Hop) → IsIn (e, d) os → layout j (thing.GroupMember hops hop) → IsBody (Has layout) (thing.GroupMember hops hop) d → same_entry e (entry_of j.0 d) ≡ true → IsIn hop those
+      pub rising : AreRisingHops those
+      pub sound : (hop : WHop) → IsIn hop those → (j : Rid) × layout j (thing.GroupMember hops hop)
+      pub all : (e : Entry Rid) (d : Body Rid) (j : Rid) (hop : WHop) → IsIn (e, d) os → layout j (thing.GroupMember hops hop) → IsBody (Has layout) (thing.GroupMember hops hop) d → same_entry e (entry_of j.0 d) ≡ true → IsIn hop those
 
-    among_step : (e : Entry Rid) (b : Body Rid) (os : Objects) (j : Rid) (u : Thing) → layout j u → IsBody (Has layout) u b → same_entry e (entry_of j.0 b) ≡ true → IsOther u b ⊎ IsMember j u b → IsAmong os → IsAmong ((e, b) ∷ os)
-    among_step e b os j u h x at (inl other) rest = record {
+    -- two members with one hop are one, where objects that clash are one
+    pub one-member : AreApart objects → (j k : Rid) (x y : WHop) → layout j (thing.GroupMember hops x) → layout k (thing.GroupMember hops y) → x.hop ≡ y.hop → x ≡ y
+    one-member apart j k x y h i same =
+        let one = laid.stand j (thing.GroupMember hops x) h in
+        let two = laid.stand k (thing.GroupMember hops y) i in
+        let group_ids = one-id layout objects laid (name.Group hops) one.1.first two.1.first one.1.first_at two.1.first_at in
+        let hop_ids = one-id layout objects laid (name.NextHop x.hop) one.1.second two.1.second one.1.second_at (subst (λ z. Has layout (name.NextHop z) two.1.second) (sym same) two.1.second_at) in
+        let clashes : clash one.0 two.0 ≡ true = ap₂ clash one.1.body_is two.1.body_is ∙ and_from _ _ (same_ids _ _ group_ids) (same_ids _ _ hop_ids) in
+        let entries = apart.each (entry_of j.0 one.0) (entry_of k.0 two.0) one.0 two.0 one.2 two.2 clashes in
+        (group_members hops hops x y (one-entry layout objects laid j k (thing.GroupMember hops x) (thing.GroupMember hops y) one.0 two.0 h i one.1 two.1 entries)).1
+      where
+        same_ids : (a b : Rid) → a ≡ b → same_id a b ≡ true
+        same_ids a b e = eq-eqb a.0 b.0 (ap (λ (r : Rid). r.0) e)
+
+    among_step : AreApart objects → (e : Entry Rid) (b : Body Rid) (os : Objects) (j : Rid) (u : Thing) → layout j u → IsBody (Has layout) u b → same_entry e (entry_of j.0 b) ≡ true → IsOther u b ⊎ IsMember j u b → IsAmong os → IsAmong ((e, b) ∷ os)
+    among_step apart e b os j u h x at (inl other) rest = record {
       those = rest.those;
       is = other.1 (hops_among objects g os) ∙ rest.is;
       rising = rest.rising;
@@ -148,55 +167,57 @@ module _ (layout : Layout Rid) (objects : Objects) (laid : IsLaidOut layout obje
       all = λ f d k hop in_it there is same. all_by f d k hop there is same in_it;
     }
       where
-        all_by : (f : Entry Rid) (d : Body Rid) (k : Rid) (hop : Hop) → layout k (thing.GroupMember hops hop) → IsBody (Has layout) (thing.GroupMember hops hop) d → same_entry f (entry_of k.0 d) ≡ true → IsIn (f, d) ((e, b) ∷ os) → IsIn hop rest.those
+        all_by : (f : Entry Rid) (d : Body Rid) (k : Rid) (hop : WHop) → layout k (thing.GroupMember hops hop) → IsBody (Has layout) (thing.GroupMember hops hop) d → same_entry f (entry_of k.0 d) ≡ true → IsIn (f, d) ((e, b) ∷ os) → IsIn hop rest.those
         all_by f d k hop there is same (inr in_it) = rest.all f d k hop in_it there is same
         all_by f d k hop there is same (inl here) =
             let entries : f ≡ e = ap (λ (o : Entry Rid × Body Rid). o.0) here in
             let one = same-trans (entry_of j.0 b) e (entry_of k.0 d) (same-symm (entry_of j.0 b) e ∙ at) (ap (λ z. same_entry z (entry_of k.0 d)) (sym entries) ∙ same) in
             absurd (other.0 hop (one-entry layout objects laid j k u (thing.GroupMember hops hop) b d h there x is one))
-    among_step e b os j u h x at (inr (hop, in_layout, thing_is, with_it)) rest = record {
-      those = insert_key hop_cmp rest.those hop;
-      is = with_it (hops_among objects g os) ∙ ap (λ o. both (insert_key hop_cmp) o (Some hop)) rest.is;
-      rising = rising-insert hop_cmp hop_total hop_exact rest.those hop rest.rising;
-      sound = λ other in_it. sound_by other (in-back hop_cmp hop_total hop_exact rest.those hop other in_it);
-      all = λ f d k other in_it there is same. all_by f d k other there is same in_it;
+    among_step apart e b os j u h x at (inr (hop, in_layout, thing_is, with_it)) rest = record {
+      those = put_hop rest.those hop;
+      is = with_it (hops_among objects g os) ∙ ap (λ o. both put_hop o (Some hop)) rest.is;
+      rising = rising-put hop rest.those rest.rising;
+      sound = λ other in_it. sound_by other (in-back whop_cmp whop_total whop_exact rest.those hop other (subst (IsIn other) fresh in_it));
+      all = λ f d k other in_it there is same. subst (IsIn other) (sym fresh) (all_by f d k other there is same in_it);
     }
       where
-        sound_by : (other : Hop) → (other ≡ hop) ⊎ IsIn other rest.those → (k : Rid) × layout k (thing.GroupMember hops other)
+        fresh : put_hop rest.those hop ≡ insert_key whop_cmp rest.those hop
+        fresh = put-fresh hop rest.those (λ y in_it one. let at = rest.sound y in_it in one-member apart at.0 j y hop at.1 in_layout one)
+
+        sound_by : (other : WHop) → (other ≡ hop) ⊎ IsIn other rest.those → (k : Rid) × layout k (thing.GroupMember hops other)
         sound_by other (inl is) = (j, subst (λ z. layout j (thing.GroupMember hops z)) (sym is) in_layout)
         sound_by other (inr in_it) = rest.sound other in_it
 
-        all_by : (f : Entry Rid) (d : Body Rid) (k : Rid) (other : Hop) → layout k (thing.GroupMember hops other) → IsBody (Has layout) (thing.GroupMember hops other) d → same_entry f (entry_of k.0 d) ≡ true → IsIn (f, d) ((e, b) ∷ os) → IsIn other (insert_key hop_cmp rest.those hop)
-        all_by f d k other there is same (inr in_it) = in-kept hop_cmp hop_total hop_exact rest.those hop other (rest.all f d k other in_it there is same)
+        all_by : (f : Entry Rid) (d : Body Rid) (k : Rid) (other : WHop) → layout k (thing.GroupMember hops other) → IsBody (Has layout) (thing.GroupMember hops other) d → same_entry f (entry_of k.0 d) ≡ true → IsIn (f, d) ((e, b) ∷ os) → IsIn other (insert_key whop_cmp rest.those hop)
+        all_by f d k other there is same (inr in_it) = in-kept whop_cmp whop_total whop_exact rest.those hop other (rest.all f d k other in_it there is same)
         all_by f d k other there is same (inl here) =
             let entries : f ≡ e = ap (λ (o : Entry Rid × Body Rid). o.0) here in
             let one = same-trans (entry_of j.0 b) e (entry_of k.0 d) (same-symm (entry_of j.0 b) e ∙ at) (ap (λ z. same_entry z (entry_of k.0 d)) (sym entries) ∙ same) in
             let names = one-entry layout objects laid j k u (thing.GroupMember hops other) b d h there x is one in
             let hop_is : hop ≡ other = (group_members hops hops hop other (ap name_of (sym thing_is) ∙ names)).1 in
-            subst (λ z. IsIn z (insert_key hop_cmp rest.those hop)) hop_is (in-insert hop_cmp hop_total hop_exact rest.those hop)
+            subst (λ z. IsIn z (insert_key whop_cmp rest.those hop)) hop_is (in-insert whop_cmp whop_total whop_exact rest.those hop)
 
-    pub among : (os : Objects) → ((e : Entry Rid) (b : Body Rid) → IsIn (e, b) os → body_at objects e ≡ Some b) → IsAmong os
-    unfolding IsStrictlySortedBy
-    among [] found = record { those = []; is = refl; rising = tt; sound = λ hop h. elim h [ ]; all = λ e d j hop in_it there is same. elim in_it [ ] }
-    among (o ∷ os) found =
+    pub among : AreApart objects → (os : Objects) → ((e : Entry Rid) (b : Body Rid) → IsIn (e, b) os → body_at objects e ≡ Some b) → IsAmong os
+    among apart [] found = record { those = []; is = refl; rising = rising-none; sound = λ hop h. elim h [ ]; all = λ e d j hop in_it there is same. elim in_it [ ] }
+    among apart (o ∷ os) found =
         let owner = laid.tied o.0 o.1 (found o.0 o.1 (inl refl)) in
-        among_step o.0 o.1 os owner.0 owner.1 owner.2 owner.3 owner.4 (member_or_other owner.0 owner.1 o.1 owner.2 owner.3) (among os (λ e b h. found e b (inr h)))
+        among_step apart o.0 o.1 os owner.0 owner.1 owner.2 owner.3 owner.4 (member_or_other owner.0 owner.1 o.1 owner.2 owner.3) (among apart os (λ e b h. found e b (inr h)))
 
   module _ (made : ℕ) (whole : IsWhole made objects) (grouped : AreGrouped layout) where
-    group_by : (t : Thing) (g : Rid) (hops : List Hop) → layout g t → name_of t ≡ name.Group hops → hops_at objects g ≡ Some hops
+    group_by : (t : Thing) (g : Rid) (hops : List WHop) → layout g t → name_of t ≡ name.Group hops → hops_at objects g ≡ Some hops
     group_by (thing.Group hs) g hops h e =
         let same = groups hs hops e in
         let there : layout g (thing.Group hops) = subst (λ z. layout g (thing.Group z)) same h in
-        let these = among g hops (thing.Group hops, there, refl) objects (λ x b i. found-in objects x b whole.sorted i) in
+        let these = among g hops (thing.Group hops, there, refl) whole.apart objects (λ x b i. found-in objects x b whole.sorted i) in
         these.is
-        ∙ ap Some (same-rising hop_cmp hop_total hop_exact these.those hops these.rising (grouped.rising g hops there) (λ hop i. let m = these.sound hop i in grouped.only m.0 hops hop m.1) (λ hop i.
+        ∙ ap Some (same-hops these.those hops these.rising (grouped.rising g hops there) (λ hop i. let m = these.sound hop i in grouped.only m.0 hops hop m.1) (λ hop i.
         let m = grouped.have g hops hop there i in
         let has = laid.stand m.0 (thing.GroupMember hops hop) m.1 in
         let object = in-found objects (entry_of m.0.0 has.0) has.0 has.2 in
         these.all object.0 has.0 m.0 hop object.2 m.1 has.1 (same-symm object.0 (entry_of m.0.0 has.0) ∙ object.1)))
     group_by _ g hops h e = absurd cc
 
-    group_named : (hops : List Hop) (g : Rid) → Has layout (name.Group hops) g → hops_at objects g ≡ Some hops
+    group_named : (hops : List WHop) (g : Rid) → Has layout (name.Group hops) g → hops_at objects g ≡ Some hops
     group_named hops g x = group_by x.0 g hops x.1 x.2
 
     both_named : {A B C : Type 0} (f : A → B → C) (o : Option A) (p : Option B) (a : A) (b : B) → o ≡ Some a → p ≡ Some b → both f o p ≡ Some (f a b)
@@ -214,7 +235,7 @@ module _ (layout : Layout Rid) (objects : Objects) (laid : IsLaidOut layout obje
     thing_named i (thing.Neighbor hop mac) e a c h x y at = ap (option_map (λ z. thing.Neighbor z mac)) (hop_named hop a x)
     thing_named i (thing.NextHop hop) e a c h x y at = ap (option_map thing.NextHop) (hop_named hop a x)
     thing_named i (thing.Group hops) e a c h x y at = ap (λ z. thing_of objects (z, body.Group)) (entry-exact e (entry.Oid i) at) ∙ ap (option_map thing.Group) (group_named hops i (thing.Group hops, h, refl))
-    thing_named i (thing.GroupMember hops hop) e a c h x y at = both_named thing.GroupMember _ _ hops hop (group_named hops a x) (next_hop_named hop c y)
+    thing_named i (thing.GroupMember hops hop) e a c h x y at = both_named thing.GroupMember _ _ hops hop (group_named hops a x) (whop_named hop c y)
     thing_named i (thing.Route prefix goal.Drop) e a c h x y at = refl
     thing_named i (thing.Route prefix (goal.Direct on)) e a c h x y at = ap (λ o. option_map (thing.Route prefix) (option_map goal.Direct o)) (rif_by x.0 a on x.1 x.2)
     thing_named i (thing.Route prefix (goal.Via hop)) e a c h x y at = ap (λ o. option_map (thing.Route prefix) (option_map goal.Via o)) (next_hop_named hop a x)

@@ -6,7 +6,7 @@ use Rattle.sai_types.specs.declared.thing.Thing.{Thing}
 use Rattle.sai_types.specs.Alike.{IsIn}
 use Rattle.sai_types.specs.Objects.{Objects}
 use Rattle.chip_layout.specs.Layout.{IsFree, IsLaidOut, with_thing, without}
-use Rattle.sai_types.specs.Names.{ThingName, ShareLane, name_of}
+use Rattle.sai_types.specs.Names.{Overlap, ThingName, name_of}
 use Rattle.chip_layout.specs.Owned.{AreOwned, Gains, Holdings, Loses, laid_by}
 use Rattle.chip_layout.proofs.Shapes.{laid-same}
 
@@ -18,12 +18,12 @@ module _ {O : Type 0} (owner_of : ThingName → Option O) (holds : Holdings O) (
   pub one-owner : (o p : O) (i j : Rid) (t u : Thing) → IsIn (i, t) (holds o) → IsIn (j, u) (holds p) → name_of t ≡ name_of u → o ≡ p
   one-owner o p i j t u h g same = same_Some o p (sym (owned o i t h) ∙ ap owner_of same ∙ owned p j u g)
 
-  -- a thing is free where its owner has none of its name, and it shares no lane
-  pub free-owned : (o : O) (t : Thing) → owner_of (name_of t) ≡ Some o → ((i : Rid) (u : Thing) → IsIn (i, u) (holds o) → name_of t ≡ name_of u → ⊥) → ((p : O) (i : Rid) (u : Thing) → IsIn (i, u) (holds p) → ShareLane t u → ⊥) → IsFree (laid_by holds) t
-  free-owned o t is none lanes i u (p, h) (inl same) =
+  -- a thing is free where its owner has none of its name, and it overlaps nothing
+  pub free-owned : (o : O) (t : Thing) → owner_of (name_of t) ≡ Some o → ((i : Rid) (u : Thing) → IsIn (i, u) (holds o) → name_of t ≡ name_of u → ⊥) → ((p : O) (i : Rid) (u : Thing) → IsIn (i, u) (holds p) → Overlap t u → ⊥) → IsFree (laid_by holds) t
+  free-owned o t is none apart i u (p, h) (inl same) =
       let owners : p ≡ o = same_Some p o (sym (owned p i u h) ∙ ap owner_of (sym same) ∙ is) in
       none i u (subst (λ z. IsIn (i, u) (holds z)) owners h) same
-  free-owned o t is none lanes i u (p, h) (inr share) = lanes p i u h share
+  free-owned o t is none apart i u (p, h) (inr overlap) = apart p i u h overlap
 
 module _ {O : Type 0} (holds later : Holdings O) (objects : Objects) where
   pub laid-gained : (o : O) (i : Rid) (t : Thing) → Gains holds later o i t → IsLaidOut (with_thing (laid_by holds) i t) objects → IsLaidOut (laid_by later) objects

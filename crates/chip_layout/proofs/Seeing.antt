@@ -9,6 +9,7 @@ use Rattle.sai_types.specs.declared.kind.Kind.TheVariants as kind
 use Rattle.sai_types.specs.declared.hop.Base.{Base}
 use Rattle.sai_types.specs.declared.hop.Base.TheVariants as base
 use Rattle.sai_types.specs.declared.hop.Hop.{Hop}
+use Rattle.sai_types.specs.declared.weight.WHop.{WHop}
 use Rattle.sai_types.specs.declared.body.Body.{Body}
 use Rattle.sai_types.specs.declared.body.Body.TheVariants as body
 use Rattle.sai_types.specs.declared.body.Entry.{Entry}
@@ -20,7 +21,7 @@ use Rattle.sai_types.specs.declared.thing.Thing.{Thing}
 use Rattle.sai_types.specs.declared.thing.Thing.TheVariants as thing
 use Rattle.sai_types.specs.After.{entry_of}
 use Rattle.sai_types.specs.Made.{HaveLanes, IsWhole, same_entry}
-use Rattle.sai_types.specs.Named.{both, bridge_port_at, bridge_port_of, first_lane, next_hop_at, next_hop_of, port_at, body_port, rif_at, rif_of, thing_by, vlan_at, body_vlan}
+use Rattle.sai_types.specs.Named.{both, bridge_port_at, bridge_port_of, first_lane, next_hop_at, next_hop_of, port_at, body_port, rif_at, rif_of, thing_by, vlan_at, body_vlan, whop_at}
 use Rattle.sai_types.specs.Names as name
 use Rattle.sai_types.specs.Names.{name_of}
 use Rattle.sai_types.specs.Objects.{Objects, body_at, is_kind_of, is_there}
@@ -41,7 +42,7 @@ first_of_both a b h = (and_parts a b h).0
 second : (a b c : Bool) → (a && (b && c)) ≡ true → b ≡ true
 second a b c h = first_of_both b c (and_parts a (b && c) h).1
 
-module _ (tag : Rid → List Hop) (made : ℕ) (objects : Objects) (whole : IsWhole made objects) where
+module _ (tag : Rid → List WHop) (made : ℕ) (objects : Objects) (whole : IsWhole made objects) where
   abbrev L : Layout Rid
   L = seen tag objects
 
@@ -142,7 +143,10 @@ module _ (tag : Rid → List Hop) (made : ℕ) (objects : Objects) (whole : IsWh
       let at = whole.entered.each e body.Group f in
       let g : Rid = record { 0 = at.0 } in
       show e body.Group (thing.Group (tag g)) no_id no_id (ap (λ z. thing_by (tagged tag) objects (z, body.Group)) (entry-exact e (entry.Oid g) at.2)) tt tt refl
-  shown e (body.GroupMember g n) f w = let hop = next_hop n (second _ _ _ w) in show e _ (thing.GroupMember (tag g) hop.0) g n (ap (both thing.GroupMember (tagged tag g)) hop.1) (group g (first_of_both _ _ w)) hop.2 refl
+  shown e (body.GroupMember g n weight) f w =
+      let hop = next_hop n (second _ _ _ w) in
+      let whop : whop_at objects n weight ≡ Some (record { hop = hop.0; weight = weight }) = ap (option_map (λ h. record { hop = h; weight = weight })) hop.1 in
+      show e _ (thing.GroupMember (tag g) (record { hop = hop.0; weight = weight })) g n (ap (both thing.GroupMember (tagged tag g)) whop) (group g (first_of_both _ _ w)) hop.2 refl
   shown e (body.Route prefix to.Drop) f w = show e _ (thing.Route prefix goal.Drop) no_id no_id refl tt tt refl
   shown e (body.Route prefix (to.Rif r)) f w = let b = rif r (first_of_both _ _ w) in show e _ (thing.Route prefix (goal.Direct b.0)) r no_id (ap (λ o. option_map (thing.Route prefix) (option_map goal.Direct o)) b.1) b.2 tt refl
   shown e (body.Route prefix (to.NextHop r)) f w = let hop = next_hop r (first_of_both _ _ w) in show e _ (thing.Route prefix (goal.Via hop.0)) r no_id (ap (λ o. option_map (thing.Route prefix) (option_map goal.Via o)) hop.1) hop.2 tt refl
@@ -184,7 +188,7 @@ module _ (tag : Rid → List Hop) (made : ℕ) (objects : Objects) (whole : IsWh
   ids i t u s r x y = one_thing i i t u s r (at_id i t s x ∙ sym (at_id i u r y))
 
   module _ (apart_tags : (g h : Rid) → tag g ≡ tag h → g ≡ h) (have : HaveLanes objects) where
-    one_group : (g h : Rid) (hs : List Hop) → tagged tag g ≡ Some hs → tagged tag h ≡ Some hs → same_id g h ≡ true
+    one_group : (g h : Rid) (hs : List WHop) → tagged tag g ≡ Some hs → tagged tag h ≡ Some hs → same_id g h ≡ true
     one_group g h hs x y = eq-eqb g.0 h.0 (ap (λ (r : Rid). r.0) (apart_tags g h (same_Some (tag g) (tag h) (x ∙ sym y))))
 
     number_by : (x : Bool) (i j : Rid) (t u : Thing) (s : L i t) (r : L j u) → has_number t ≡ x → s.entry ≡ r.entry → t ≡ u → i ≡ j

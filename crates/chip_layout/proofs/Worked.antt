@@ -6,6 +6,7 @@ use Rattle.swss_types.specs.declared.address.Mac.{Mac}
 use Rattle.sai_types.specs.declared.ids.Rid.{Rid}
 use Rattle.sai_types.specs.declared.hop.Base.TheVariants as base
 use Rattle.sai_types.specs.declared.hop.Hop.{Hop}
+use Rattle.sai_types.specs.declared.weight.WHop.{WHop}
 use Rattle.sai_types.specs.declared.body.Body.TheVariants as body
 use Rattle.sai_types.specs.declared.body.Call.{Call}
 use Rattle.sai_types.specs.declared.body.Call.TheVariants as call
@@ -35,8 +36,14 @@ one = record { on = base.Vlan 10; ip = ten 2 }
 abbrev other : Hop
 other = record { on = base.Vlan 10; ip = ten 3 }
 
-abbrev group : List Hop
-group = one ∷ other ∷ []
+abbrev heavy : WHop
+heavy = record { hop = one; weight = 3 }
+
+abbrev light : WHop
+light = record { hop = other; weight = 1 }
+
+abbrev group : List WHop
+group = heavy ∷ light ∷ []
 
 -- an interface with two next hops, a group, and its first member and then its second
 abbrev calls : List (Call Rid)
@@ -48,29 +55,29 @@ calls =
     ∷ call.Create (body.Neighbor (id 2) (ten 3) (mac 3))
     ∷ call.Create (body.NextHop (id 2) (ten 3))
     ∷ call.Create body.Group
-    ∷ call.Create (body.GroupMember (id 5) (id 3))
-    ∷ call.Create (body.GroupMember (id 5) (id 4))
+    ∷ call.Create (body.GroupMember (id 5) (id 3) 3)
+    ∷ call.Create (body.GroupMember (id 5) (id 4) 1)
     ∷ []
 
 -- the chip shows a group of one hop, where a group of two is meant
-half_shown : those (named (chip_after calls 8)) ≡ thing.Vlan 10 ∷ thing.Rif (base.Vlan 10) ∷ thing.NextHop one ∷ thing.NextHop other ∷ thing.Group (one ∷ []) ∷ thing.GroupMember (one ∷ []) one ∷ thing.Neighbor one (mac 2) ∷ thing.Neighbor other (mac 3) ∷ []
+half_shown : those (named (chip_after calls 8)) ≡ thing.Vlan 10 ∷ thing.Rif (base.Vlan 10) ∷ thing.NextHop one ∷ thing.NextHop other ∷ thing.Group (heavy ∷ []) ∷ thing.GroupMember (heavy ∷ []) heavy ∷ thing.Neighbor one (mac 2) ∷ thing.Neighbor other (mac 3) ∷ []
 half_shown = refl
 
 -- and two hops once it is whole
-whole_shown : those (named (chip_after calls 9)) ≡ thing.Vlan 10 ∷ thing.Rif (base.Vlan 10) ∷ thing.NextHop one ∷ thing.NextHop other ∷ thing.Group group ∷ thing.GroupMember group one ∷ thing.GroupMember group other ∷ thing.Neighbor one (mac 2) ∷ thing.Neighbor other (mac 3) ∷ []
+whole_shown : those (named (chip_after calls 9)) ≡ thing.Vlan 10 ∷ thing.Rif (base.Vlan 10) ∷ thing.NextHop one ∷ thing.NextHop other ∷ thing.Group group ∷ thing.GroupMember group heavy ∷ thing.GroupMember group light ∷ thing.Neighbor one (mac 2) ∷ thing.Neighbor other (mac 3) ∷ []
 whole_shown = refl
 
 -- what stands while it is half built: the group has the name that it is meant to have
 abbrev half : List (Rid × Thing)
-half = (id 5, thing.Group group) ∷ (id 6, thing.GroupMember group one) ∷ []
+half = (id 5, thing.Group group) ∷ (id 6, thing.GroupMember group heavy) ∷ []
 
 -- so it is laid out, but is no whole group
-member_there : (j : Rid) → IsIn (j, thing.GroupMember group other) half → ⊥
+member_there : (j : Rid) → IsIn (j, thing.GroupMember group light) half → ⊥
 member_there j (inl is) = let no = ap (λ (x : Rid × Thing). x.1) is in cc
 member_there j (inr (inl is)) =
-    let same : 3 ≡ 2 = ap (λ (h : Hop). h.ip.bits) (group_members group group other one (ap (λ (x : Rid × Thing). name_of x.1) is)).1 in
+    let same : 3 ≡ 2 = ap (λ (h : WHop). h.hop.ip.bits) (group_members group group light heavy (ap (λ (x : Rid × Thing). name_of x.1) is)).1 in
     absurd (omega (arith, same))
 member_there j (inr (inr h)) = h
 
 half_is_no_group : AreGrouped (listed half) → ⊥
-half_is_no_group grouped = let m = grouped.have (id 5) group other (inl refl) (inr (inl refl)) in member_there m.0 m.1
+half_is_no_group grouped = let m = grouped.have (id 5) group light (inl refl) (inr (inl refl)) in member_there m.0 m.1

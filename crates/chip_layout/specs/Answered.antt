@@ -4,6 +4,7 @@ use Rattle.swss_types.specs.Address.{IsProperPrefix}
 use Rattle.swss_types.specs.declared.address.Mac.{Mac}
 use Rattle.sai_types.specs.declared.ids.Rid.{Rid}
 use Rattle.sai_types.specs.declared.hop.Hop.{Hop}
+use Rattle.sai_types.specs.declared.weight.WHop.{WHop}
 use Rattle.sai_types.specs.declared.body.Body.{Body}
 use Rattle.sai_types.specs.declared.body.Body.TheVariants as body
 use Rattle.sai_types.specs.declared.body.Entry.{Entry}
@@ -36,5 +37,5 @@ pub record HasOneMac (things : List Thing) (hop : Hop) : Type 0 where
 
 -- each hop that packets go through has one
 abbrev pub HopsAreReached : List Thing → Decision → Type 0
-HopsAreReached things (decision.Via hops) = (hop : Hop) → IsIn hop hops → HasOneMac things hop
+HopsAreReached things (decision.Via hops) = (whop : WHop) → IsIn whop hops → HasOneMac things whop.hop
 HopsAreReached things _ = Unit {0}

@@ -65,7 +65,7 @@ body_with (thing.Own ip) i j = body.OwnAddress ip
 body_with (thing.Neighbor hop mac) i j = body.Neighbor i hop.ip mac
 body_with (thing.NextHop hop) i j = body.NextHop i hop.ip
 body_with (thing.Group hops) i j = body.Group
-body_with (thing.GroupMember hops hop) i j = body.GroupMember i j
+body_with (thing.GroupMember hops whop) i j = body.GroupMember i j whop.weight
 body_with (thing.Route prefix goal) i j = body.Route prefix (to_with goal i)
 
 -- an identifier is that of a name, where there is a name

@@ -36,7 +36,7 @@ body_renamed f (body.OwnAddress ip) = body.OwnAddress ip
 body_renamed f (body.Neighbor i ip mac) = body.Neighbor (f i) ip mac
 body_renamed f (body.NextHop i ip) = body.NextHop (f i) ip
 body_renamed f body.Group = body.Group
-body_renamed f (body.GroupMember i j) = body.GroupMember (f i) (f j)
+body_renamed f (body.GroupMember i j weight) = body.GroupMember (f i) (f j) weight
 body_renamed f (body.Route prefix to) = body.Route prefix (to_renamed f to)
 
 abbrev pub entry_renamed : {I J : Type 0} → (I → J) → Entry I → Entry J

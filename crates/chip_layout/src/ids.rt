@@ -2,7 +2,7 @@
 ghost use Rattle.std.specs.Prelude.{◌≡◌, IfOk};
 ghost use Rattle.chip_layout.specs.Renamed.{attr_renamed, body_renamed, call_renamed, entry_renamed, on_renamed, to_renamed};
 
-use sai_types::{Attr, Body, Call, Entry, RifOn, To};
+use sai_types::{Attr, Body, Call, Entry, RifOn, To, Weight};
 use swss_types::{Ip, Lanes, Mac, OutOfMemory, Tagging};
 
 /// What gives another identifier for each.
@@ -67,7 +67,11 @@ pub fn body_with_ids<I: Copy, J, N: NewIds<I, J>>(
         Body::Neighbor { rif, ip, mac } => neighbor(ids, *rif, *ip, *mac),
         Body::NextHop { rif, ip } => next_hop(ids, *rif, *ip),
         Body::Group => Body::Group,
-        Body::GroupMember { group, next_hop } => group_member(ids, *group, *next_hop),
+        Body::GroupMember {
+            group,
+            next_hop,
+            weight,
+        } => group_member(ids, *group, *next_hop, *weight),
         Body::Route { prefix, to } => Body::Route {
             prefix: *prefix,
             to: to_with_ids(ids, *to),
@@ -116,12 +120,13 @@ fn next_hop<I, J, N: NewIds<I, J>>(ids: &N, rif: I, ip: Ip) -> Body<J>
 }
 
 /// A member of a group.
-fn group_member<I, J, N: NewIds<I, J>>(ids: &N, group: I, next_hop: I) -> Body<J>
-    ensures { result ≡ body_renamed (N.new_id ids.now) (Body.GroupMember group next_hop) }
+fn group_member<I, J, N: NewIds<I, J>>(ids: &N, group: I, next_hop: I, weight: Weight) -> Body<J>
+    ensures { result ≡ body_renamed (N.new_id ids.now) (Body.GroupMember group next_hop weight) }
 {
     Body::GroupMember {
         group: ids.new_id(group),
         next_hop: ids.new_id(next_hop),
+        weight,
     }
 }
 

@@ -1,7 +1,7 @@
 // What calls do to the things that stand. Each function is a law: it does nothing, and its contract is proved.
 ghost use Rattle.std.specs.Prelude.{◌≡◌, ℕ, ◌+◌, true, List, ◌∷◌};
 ghost use Rattle.swss_types.specs.declared.vrf.Packet.{Packet};
-ghost use Rattle.sai_types.specs.declared.hop.Hop.{Hop};
+ghost use Rattle.sai_types.specs.declared.weight.WHop.{WHop};
 ghost use Rattle.sai_types.specs.declared.ids.Rid.{Rid};
 ghost use Rattle.sai_types.specs.declared.body.Attr.{Attr};
 ghost use Rattle.sai_types.specs.declared.body.Body.{Body};
@@ -44,7 +44,7 @@ pub fn set_changes()
 /// A whole chip is laid out by what it shows itself, leftovers included: each object with what it stands for, and in the
 /// place of a group's hops a tag of its own.
 pub fn shown_is_laid()
-    ensures { (tag : Rid → List Hop) (made : ℕ) (objects : Objects) → ((g h : Rid) → tag g ≡ tag h → g ≡ h) → IsWhole made objects → HaveLanes objects → IsLaidOut (seen tag objects) objects }
+    ensures { (tag : Rid → List WHop) (made : ℕ) (objects : Objects) → ((g h : Rid) → tag g ≡ tag h → g ≡ h) → IsWhole made objects → HaveLanes objects → IsLaidOut (seen tag objects) objects }
 {}
 
 /// In each state that legal calls made, where ports have lanes and prefixes are proper, an address has one answer,

@@ -1,10 +1,9 @@
 -- what objects stand for, by bodies that are found alike
 use Rattle.std.proofs.Common.{◌≡◌, ℕ, ◌-◌, ◌<◌, ◌≤◌, suc, List, [], ◌∷◌, length, drop, get_or, drop-cons, map, Option, None, Some, option_map, if◌then◌else◌, refl, sym, ap, ◌∙◌, arith}
-use Rattle.std.specs.BTreeSet.{insert_key}
 use Rattle.swss_types.specs.declared.address.Ip.{Ip}
 use Rattle.sai_types.specs.declared.ids.Rid.{Rid}
 use Rattle.sai_types.specs.declared.hop.Base.TheVariants as base
-use Rattle.sai_types.specs.declared.hop.Hop.{Hop}
+use Rattle.sai_types.specs.declared.weight.WHop.{WHop}
 use Rattle.sai_types.specs.declared.thing.Thing.TheVariants as thing
 use Rattle.sai_types.specs.declared.thing.Goal.TheVariants as goal
 use Rattle.sai_types.specs.declared.body.Body.{Body}
@@ -18,7 +17,7 @@ use Rattle.sai_types.specs.declared.body.To.TheVariants as to
 use Rattle.sai_types.specs.Objects.{Objects, body_at}
 use Rattle.sai_types.specs.ChipState.{objects_of}
 use Rattle.sai_types.specs.Refusal.{same_id}
-use Rattle.sai_types.specs.Named.{both, hop_cmp, body_port, body_vlan, port_at, vlan_at, bridge_port_of, bridge_port_at, base_on, rif_of, rif_at, hop_on, next_hop_of, next_hop_at, with_member, hops_among, hops_at, goal_by, thing_by, thing_of, things_among, named}
+use Rattle.sai_types.specs.Named.{both, body_port, body_vlan, port_at, vlan_at, bridge_port_of, bridge_port_at, base_on, rif_of, rif_at, hop_on, next_hop_of, next_hop_at, put_hop, whop_at, with_member, hops_among, hops_at, goal_by, thing_by, thing_of, things_among, named}
 use Rattle.chip_names.specs.Members.{hops_by}
 use Rattle.chip_names.specs.Naming.{AreBodies, AreHops, AreNamesOf, GroupHops, NameTable, entries_of, hops_of_group}
 
@@ -60,19 +59,22 @@ module _ (xs ys : Objects) (found : AreBodies ys xs) where
   next_hop_at-same : (r : Rid) → next_hop_at xs r ≡ next_hop_at ys r
   next_hop_at-same r = next_hop_of-same (body_at xs (entry.Oid r)) ∙ ap (next_hop_of ys) (found.each r)
 
-  with_member-same : (g : Rid) (b : Body Rid) (others : Option (List Hop)) → with_member xs g b others ≡ with_member ys g b others
-  with_member-same g (body.GroupMember group next_hop) others = ap (λ h. if same_id group g then both (insert_key hop_cmp) others h else others) (next_hop_at-same next_hop)
+  whop_at-same : (r : Rid) (weight : ℕ) → whop_at xs r weight ≡ whop_at ys r weight
+  whop_at-same r weight = ap (option_map (λ h. record { hop = h; weight = weight })) (next_hop_at-same r)
+
+  with_member-same : (g : Rid) (b : Body Rid) (others : Option (List WHop)) → with_member xs g b others ≡ with_member ys g b others
+  with_member-same g (body.GroupMember group next_hop weight) others = ap (λ h. if same_id group g then both put_hop others h else others) (whop_at-same next_hop weight)
   with_member-same g _ others = refl
 
   pub hops_among-same : (g : Rid) (members : Objects) → hops_among xs g members ≡ hops_among ys g members
   hops_among-same g [] = refl
   hops_among-same g (o ∷ os) = with_member-same g o.1 (hops_among xs g os) ∙ ap (with_member ys g o.1) (hops_among-same g os)
 
-  pub hops_by-bodies : (ns : List Rid) → hops_by xs ns ≡ hops_by ys ns
+  pub hops_by-bodies : (ns : List (Rid × ℕ)) → hops_by xs ns ≡ hops_by ys ns
   hops_by-bodies [] = refl
-  hops_by-bodies (n ∷ ns) = ap (λ hs. both (insert_key hop_cmp) hs (next_hop_at xs n)) (hops_by-bodies ns) ∙ ap (both (insert_key hop_cmp) (hops_by ys ns)) (next_hop_at-same n)
+  hops_by-bodies (n ∷ ns) = ap (λ hs. both put_hop hs (whop_at xs n.0 n.1)) (hops_by-bodies ns) ∙ ap (both put_hop (hops_by ys ns)) (whop_at-same n.0 n.1)
 
-  module _ (f g : Rid → Option (List Hop)) (hops : (r : Rid) → f r ≡ g r) where
+  module _ (f g : Rid → Option (List WHop)) (hops : (r : Rid) → f r ≡ g r) where
     goal_by-same : (to : To Rid) → goal_by f xs to ≡ goal_by g ys to
     goal_by-same to.Drop = refl
     goal_by-same (to.Rif r) = ap (option_map goal.Direct) (rif_at-same r)
@@ -92,7 +94,7 @@ module _ (xs ys : Objects) (found : AreBodies ys xs) where
     thing_by-same (entry.Own ip) body.Group = refl
     thing_by-same (entry.Neigh r ip) body.Group = refl
     thing_by-same (entry.Route p) body.Group = refl
-    thing_by-same e (body.GroupMember group next_hop) = let one = hops group in let two = next_hop_at-same next_hop in cc
+    thing_by-same e (body.GroupMember group next_hop weight) = let one = hops group in let two = whop_at-same next_hop weight in cc
     thing_by-same e (body.Route prefix to) = ap (option_map (thing.Route prefix)) (goal_by-same to)
 
     map-same : (os : Objects) → map (thing_by f xs) os ≡ map (thing_by g ys) os
@@ -116,11 +118,11 @@ drop-before xs left d some within =
     drop-cons xs (left - 1) d inside ∙ ap (λ k. get_or xs (left - 1) d ∷ drop k xs) next
 
 -- one more next hop in front
-pub hops_by-before : (objects : Objects) (ns : List Rid) (left : ℕ) (d : Rid) (hop : Option Hop) (hops new : Option (List Hop)) → 0 < left → left ≤ length ns → hops ≡ hops_by objects (drop left ns) → hop ≡ next_hop_at objects (get_or ns (left - 1) d) → new ≡ both (insert_key hop_cmp) hops hop → new ≡ hops_by objects (drop (left - 1) ns)
+pub hops_by-before : (objects : Objects) (ns : List (Rid × ℕ)) (left : ℕ) (d : Rid × ℕ) (hop : Option WHop) (hops new : Option (List WHop)) → 0 < left → left ≤ length ns → hops ≡ hops_by objects (drop left ns) → hop ≡ whop_at objects (get_or ns (left - 1) d).0 (get_or ns (left - 1) d).1 → new ≡ both put_hop hops hop → new ≡ hops_by objects (drop (left - 1) ns)
 hops_by-before objects ns left d hop hops new some within found one more =
     more
-    ∙ ap (both (insert_key hop_cmp) hops) one
-    ∙ ap (λ hs. both (insert_key hop_cmp) hs (next_hop_at objects (get_or ns (left - 1) d))) found
+    ∙ ap (both put_hop hops) one
+    ∙ ap (λ hs. both put_hop hs (whop_at objects (get_or ns (left - 1) d).0 (get_or ns (left - 1) d).1)) found
     ∙ ap (hops_by objects) (sym (drop-before ns left d some within))
 
 -- and so is what one of them names, and where a route leads

@@ -1,25 +1,24 @@
 -- The members of a group, and what an object needs of groups to be named. Own.
-use Rattle.std.specs.Prelude.{◌≡◌, List, [], ◌∷◌, Option, Some, None}
-use Rattle.std.specs.BTreeSet.{insert_key}
+use Rattle.std.specs.Prelude.{◌≡◌, ℕ, List, [], ◌∷◌, Option, Some, None}
 use Rattle.sai_types.specs.declared.ids.Rid.{Rid}
-use Rattle.sai_types.specs.declared.hop.Hop.{Hop}
+use Rattle.sai_types.specs.declared.weight.WHop.{WHop}
 use Rattle.sai_types.specs.declared.body.Body.{Body}
 use Rattle.sai_types.specs.declared.body.Body.TheVariants as body
 use Rattle.sai_types.specs.declared.body.Entry.{Entry}
 use Rattle.sai_types.specs.declared.body.Entry.TheVariants as entry
 use Rattle.sai_types.specs.declared.body.To.TheVariants as to
 use Rattle.sai_types.specs.Objects.{Objects}
-use Rattle.sai_types.specs.Named.{both, hop_cmp, hops_at, next_hop_at}
+use Rattle.sai_types.specs.Named.{both, hops_at, put_hop, whop_at}
 use Rattle.chip_names.specs.Naming.{GroupHops, hops_of_group}
 
--- the hops of these next hops, rising: none where one is absent
-abbrev pub hops_by : Objects → List Rid → Option (List Hop)
+-- the hops of these next hops with their weights, the hops rising: none where a next hop is absent
+abbrev pub hops_by : Objects → List (Rid × ℕ) → Option (List WHop)
 hops_by objects [] = Some []
-hops_by objects (n ∷ ns) = both (insert_key hop_cmp) (hops_by objects ns) (next_hop_at objects n)
+hops_by objects (n ∷ ns) = both put_hop (hops_by objects ns) (whop_at objects n.0 n.1)
 
 -- the group by whose hops an object is named
 abbrev pub group_named_by : Entry Rid → Body Rid → Option Rid
-group_named_by e (body.GroupMember group next_hop) = Some group
+group_named_by e (body.GroupMember group next_hop weight) = Some group
 group_named_by e (body.Route prefix (to.Group g)) = Some g
 group_named_by (entry.Oid g) body.Group = Some g
 group_named_by e b = None

@@ -1,12 +1,12 @@
 // The objects of a list by their identifiers.
 ghost use Rattle.std.specs.Prelude.{◌≡◌, Some, IfOk};
-ghost use Rattle.sai_types.specs.Named.{next_hop_at, next_hop_of};
+ghost use Rattle.sai_types.specs.Named.{next_hop_at, next_hop_of, whop_at};
 ghost use Rattle.chip_names.specs.Naming.{AreBodies, AreNextHops, entries_of, numbered};
 
 use crate::names::hop_on;
 use crate::things::bodies_of;
 use late_maps::LateMap;
-use sai_types::{Body, Hop, Object, Rid};
+use sai_types::{Body, Hop, Object, Rid, WHop, Weight};
 use std::alloc::Global;
 use std::marker::Model;
 use swss_types::OutOfMemory;
@@ -57,6 +57,14 @@ impl Known {
         ensures { result ≡ next_hop_at self.now next_hop }
     {
         self.next_hops.get(&next_hop).copied()
+    }
+
+    /// The hop of a next hop, with the weight of a member.
+    pub fn whop(&self, next_hop: Rid, weight: Weight) -> Option<WHop>
+        ensures { result ≡ whop_at self.now next_hop weight }
+    {
+        let hop = self.hop(next_hop)?;
+        Some(WHop { hop, weight })
     }
 }
 

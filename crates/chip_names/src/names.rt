@@ -1,13 +1,15 @@
 // What identifiers stand for.
 ghost use Rattle.std.specs.Prelude.{◌≡◌, [], IfOk, option_copied, option_map};
 ghost use Rattle.std.specs.Option.{is_some};
-ghost use Rattle.sai_types.specs.Named.{base_on, both, bridge_port_at, goal_by, hop_on, next_hop_at, port_at, rif_at, thing_by, vlan_at};
+ghost use Rattle.sai_types.specs.Named.{base_on, both, bridge_port_at, goal_by, hop_on, next_hop_at, port_at, rif_at, thing_by, vlan_at, whop_at};
 ghost use Rattle.sai_types.specs.Objects.{body_at};
 ghost use Rattle.chip_names.specs.Naming.{hops_of_group, numbered};
 
 use crate::known::{Known, Numbered};
 use late_maps::LateMap;
-use sai_types::{Base, Body, Entry, Goal, Hop, Hops, PortThing, Rid, RifOn, Thing, To};
+use sai_types::{
+    Base, Body, Entry, Goal, Hop, Hops, PortThing, Rid, RifOn, Thing, To, WHop, Weight,
+};
 use std::alloc::Global;
 use swss_types::{Ip, Mac, OutOfMemory, Prefix, Tagging};
 
@@ -80,13 +82,21 @@ pub fn hop_on(bodies: &Numbered, rif: Rid, ip: Ip) -> Option<Hop>
 }
 
 /// A next hop is named as its neighbour.
-pub fn next_hop_at(bodies: &Numbered, next_hop: Rid) -> Option<Hop>
+fn next_hop_at(bodies: &Numbered, next_hop: Rid) -> Option<Hop>
     ensures { result ≡ next_hop_at (numbered bodies.now) next_hop }
 {
     match body_at(bodies, next_hop) {
         Some(Body::NextHop { rif, ip }) => hop_on(bodies, *rif, *ip),
         _ => None,
     }
+}
+
+/// The hop of a next hop, with the weight of a member.
+pub fn whop_at(bodies: &Numbered, next_hop: Rid, weight: Weight) -> Option<WHop>
+    ensures { result ≡ whop_at (numbered bodies.now) next_hop weight }
+{
+    let hop = next_hop_at(bodies, next_hop)?;
+    Some(WHop { hop, weight })
 }
 
 /// The hops of a group once more, without a hop where it has no member.
@@ -173,9 +183,11 @@ pub fn thing_at(
         Body::Neighbor { rif, ip, mac } => Ok(neighbor_at(bodies, *rif, *ip, *mac)),
         Body::NextHop { rif, ip } => Ok(hop_on(bodies, *rif, *ip).map(Thing::NextHop)),
         Body::Group => group_at(alloc, groups, entry),
-        Body::GroupMember { group, next_hop } => {
-            group_member_at(alloc, groups, *group, next_hop_at(bodies, *next_hop))
-        }
+        Body::GroupMember {
+            group,
+            next_hop,
+            weight,
+        } => group_member_at(alloc, groups, *group, whop_at(bodies, *next_hop, *weight)),
         Body::Route { prefix, to } => route_at(alloc, bodies, groups, *prefix, to),
     }
 }
@@ -227,12 +239,12 @@ fn group_at(
     }
 }
 
-/// A member of a group as a thing, with the hop of its next hop, where that is there.
+/// A member of a group as a thing, with the hop of its next hop and its weight, where that hop is there.
 pub fn group_member_at(
     alloc: Global,
     groups: &GroupHops,
     group: Rid,
-    hop: Option<Hop>,
+    hop: Option<WHop>,
 ) -> Result<Option<Thing>, OutOfMemory>
     ensures { IfOk result (λ thing. thing ≡ both Thing.GroupMember (hops_of_group groups.now group) hop) }
 {

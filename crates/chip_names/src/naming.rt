@@ -47,8 +47,13 @@ impl Names {
     pub fn thing(&self, object: &Object<Rid>) -> Result<Option<Thing>, OutOfMemory>
         ensures { IfOk result (λ thing. (objects : Objects) → AreNamesOf objects self.now → thing ≡ thing_of objects (object.now.entry, object.now.body)) }
     {
-        if let Body::GroupMember { group, next_hop } = &object.body {
-            let hop = self.known.hop(*next_hop);
+        if let Body::GroupMember {
+            group,
+            next_hop,
+            weight,
+        } = &object.body
+        {
+            let hop = self.known.whop(*next_hop, *weight);
             return group_member_at(self.alloc, &self.groups, *group, hop);
         }
         thing_at(

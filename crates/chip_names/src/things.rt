@@ -1,19 +1,18 @@
 // What stands on a chip, up to identifiers.
 ghost use Rattle.std.specs.Prelude.{◌≡◌, None, Some, IfOk, OnOk, map, if◌then◌else◌};
 ghost use Rattle.std.specs.BTreeMap.{is_at};
-ghost use Rattle.std.specs.BTreeSet.{insert_key};
 ghost use Rattle.std.specs.List.Sorted.{IsPermutation, IsSorted};
 ghost use Rattle.std.specs.Option.{option_or};
-ghost use Rattle.sai_types.specs.Named.{both, hop_cmp, named, thing_by, those, with_member};
+ghost use Rattle.sai_types.specs.Named.{both, named, put_hop, thing_by, those, with_member};
 ghost use Rattle.sai_types.specs.Objects.{body_at, entry_cmp};
 ghost use Rattle.sai_types.specs.declared.ids.Rid.{Rid};
 ghost use Rattle.chip_names.specs.Naming.{AreBodies, AreHops, entries_of, hops_of_group, numbered, thing_cmp, with_hop};
 ghost use Rattle.chip_names.specs.Members.{hops_by};
 
 use crate::known::{Known, Numbered};
-use crate::names::{GroupHops, next_hop_at, thing_at};
+use crate::names::{GroupHops, thing_at, whop_at};
 use late_maps::LateMap;
-use sai_types::{Body, Entry, Hop, Hops, Object, Rid, Thing};
+use sai_types::{Body, Entry, Hops, Object, Rid, Thing, WHop, Weight};
 use std::alloc::Global;
 use swss_types::OutOfMemory;
 
@@ -89,9 +88,11 @@ fn put_member(
     ensures { OnOk result ((g : Rid) → hops_of_group groups.new g ≡ with_member known.now g body.now (hops_of_group groups.old g)) }
 {
     match body {
-        Body::GroupMember { group, next_hop } => {
-            put_hop(alloc, groups, *group, known.hop(*next_hop))
-        }
+        Body::GroupMember {
+            group,
+            next_hop,
+            weight,
+        } => put_hop(alloc, groups, *group, known.whop(*next_hop, *weight)),
         _ => Ok(()),
     }
 }
@@ -101,7 +102,7 @@ fn put_hop(
     alloc: Global,
     groups: &mut GroupHops,
     group: Rid,
-    hop: Option<Hop>,
+    hop: Option<WHop>,
 ) -> Result<(), OutOfMemory>
     ensures { OnOk result ((g : Rid) → hops_of_group groups.new g ≡ with_hop group hop g (hops_of_group groups.old g)) }
 {
@@ -114,11 +115,11 @@ fn put_hop(
     Ok(())
 }
 
-/// The hops of these next hops, rising: None where one is absent.
+/// The hops of these next hops with their weights, the hops rising: None where a next hop is absent.
 pub fn hops_of(
     alloc: Global,
     bodies: &Numbered,
-    next_hops: &[Rid],
+    next_hops: &[(Rid, Weight)],
 ) -> Result<Option<Hops>, OutOfMemory>
     ensures { IfOk result (λ hops. hops ≡ hops_by (numbered bodies.now) next_hops.now) }
 {
@@ -126,14 +127,15 @@ pub fn hops_of(
     let mut left = next_hops.len();
     while 0 < left {
         left -= 1;
-        hops = add_hop(hops, next_hop_at(bodies, next_hops[left]))?;
+        let member = next_hops[left];
+        hops = add_hop(hops, whop_at(bodies, member.0, member.1))?;
     }
     Ok(hops)
 }
 
 /// Hops with one more, where there are both.
-fn add_hop(hops: Option<Hops>, hop: Option<Hop>) -> Result<Option<Hops>, OutOfMemory>
-    ensures { IfOk result (λ more. more ≡ both (insert_key hop_cmp) hops hop) }
+fn add_hop(hops: Option<Hops>, hop: Option<WHop>) -> Result<Option<Hops>, OutOfMemory>
+    ensures { IfOk result (λ more. more ≡ both put_hop hops hop) }
 {
     let (Some(mut hops), Some(hop)) = (hops, hop) else {
         return Ok(None);

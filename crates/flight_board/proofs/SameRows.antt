@@ -1,9 +1,9 @@
 -- rows that compare equal are equal
-use Rattle.std.proofs.Common.{◌≡◌, ◌∙◌, ℕ, Bool, true, List, refl, ap, ap₂, subst}
-use Rattle.std.proofs.lemmas.Bool.{and_parts, eqb-true, false≢true}
+use Rattle.std.proofs.Common.{◌≡◌, ◌∙◌, ◌==◌, ◌&&◌, ℕ, Bool, true, List, refl, ap, ap₂, subst}
+use Rattle.std.proofs.lemmas.Bool.{and_from, and_parts, eqb-true, false≢true}
 use Rattle.std.proofs.lemmas.Slice.Eq.{slice_eq-Decides}
 use Rattle.std.specs.Bool.{Decides}
-use Rattle.std.specs.Cmp.{booleans_Decides}
+use Rattle.std.specs.Cmp.{booleans_Decides, nat_eq_equiv}
 use Rattle.std.specs.Cmp.Lexicographic.{pointwise}
 use Rattle.swss_types.specs.declared.address.Ip.{Ip}
 use Rattle.swss_types.specs.declared.interface.IfName.{IfName}
@@ -37,11 +37,21 @@ row_hop_eq_exact a b h =
     let made : IfName → Ip → RowHop = λ on ip. record { on = on; ip = ip } in
     ap₂ made (if_name_exact a.on b.on parts.0) (ip-exact a.ip b.ip parts.1)
 
-row_hop_decides : (a b : RowHop) → Decides (hop_eq.ghosts.eq a b) (a ≡ b)
-row_hop_decides a b = (row_hop_eq_exact a b, λ e. subst (λ z. hop_eq.ghosts.eq a z ≡ true) e (equal_hop.laws-law.refl a))
+-- hops with their weights, by both
+abbrev weighed_eq : RowHop × ℕ → RowHop × ℕ → Bool
+weighed_eq a b = hop_eq.ghosts.eq a.0 b.0 && (a.1 == b.1)
 
-row_hops_exact : (xs ys : List RowHop) → pointwise hop_eq.ghosts.eq xs ys ≡ true → xs ≡ ys
-row_hops_exact xs ys h = (slice_eq-Decides row_hop_decides xs ys (pointwise hop_eq.ghosts.eq xs ys) refl).0 h
+weighed_exact : (a b : RowHop × ℕ) → weighed_eq a b ≡ true → a ≡ b
+weighed_exact a b h =
+    let parts = and_parts _ _ h in
+    let made : RowHop → ℕ → RowHop × ℕ = λ hop weight. (hop, weight) in
+    ap₂ made (row_hop_eq_exact a.0 b.0 parts.0) (eqb-true a.1 b.1 parts.1)
+
+weighed_decides : (a b : RowHop × ℕ) → Decides (weighed_eq a b) (a ≡ b)
+weighed_decides a b = (weighed_exact a b, λ e. subst (λ z. weighed_eq a z ≡ true) e (and_from _ _ (equal_hop.laws-law.refl a.0) (nat_eq_equiv.refl a.1)))
+
+row_hops_exact : (xs ys : List (RowHop × ℕ)) → pointwise weighed_eq xs ys ≡ true → xs ≡ ys
+row_hops_exact xs ys h = (slice_eq-Decides weighed_decides xs ys (pointwise weighed_eq xs ys) refl).0 h
 
 route_exact : (a b : RouteRow) → route_eq.ghosts.eq a b ≡ true → a ≡ b
 route_exact route.Drop route.Drop h = refl

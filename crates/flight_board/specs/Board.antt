@@ -3,7 +3,7 @@ use Rattle.std.specs.Prelude.{◌≡◌, ◌⊎◌, ℕ, List, [], ◌∷◌, le
 use Rattle.table_schema.specs.Plan.{IsPlan, Ports}
 use Rattle.table_schema.specs.declared.key.Key.{Key}
 use Rattle.table_schema.specs.declared.row.Row.{Row}
-use Rattle.sai_types.specs.declared.hop.Hop.{Hop}
+use Rattle.sai_types.specs.declared.weight.WHop.{WHop}
 use Rattle.sai_types.specs.declared.ids.Vid.{Vid}
 use Rattle.switch_model.specs.declared.wait.Wait.{Wait}
 use Rattle.switch_model.specs.declared.wait.Wait.TheVariants as wait
@@ -23,7 +23,7 @@ use Rattle.flight_board.specs.Applied.{Entries, HasPlace, row_at}
 -- what a worker has under way: the keys of the rows that the key's applied row names, the group that its new row shares, and the operations
 pub record FlightState : Type 0 where
   pub named : List Key
-  pub shared : Option (List Hop)
+  pub shared : Option (List WHop)
   pub flown : Flown
 
 -- the port plan, what the registry and the room know, the applied rows, and what each of the four workers has under way

@@ -2,7 +2,7 @@
 use Rattle.std.specs.Prelude.{◌≡◌, ℕ, List, Option, Some, None, Box, option_map}
 use Rattle.std.specs.declared.alloc.Global.{Global}
 use Rattle.table_schema.specs.declared.row.Row.{Row}
-use Rattle.sai_types.specs.declared.hop.Hop.{Hop}
+use Rattle.sai_types.specs.declared.weight.WHop.{WHop}
 use Rattle.row_layout.specs.Rows.{Group, Owner}
 use Rattle.ref_counts.specs.declared.name.Name.{Name}
 use Rattle.ref_counts.specs.declared.name.Name.TheVariants as name
@@ -20,7 +20,7 @@ operation_of (flight.Neigh f row) = f
 operation_of (flight.Route f) = f.operation
 
 -- the group that its new row shares: only routes share groups
-abbrev pub shared_group : RowFlight → Option (List Hop)
+abbrev pub shared_group : RowFlight → Option (List WHop)
 shared_group (flight.Route f) = f.group
 shared_group r = None
 

@@ -2,7 +2,6 @@
 use Rattle.std.proofs.Common.{◌≡◌, ◌+◌, ◌≤◌, ◌∷◌, ℕ, Bool, true, false, List, [], length, Option, None, Some, if◌then◌else◌, refl, ap, arith}
 use Rattle.std.proofs.lemmas.List.{length-append}
 use Rattle.std.proofs.lemmas.Option.{same_Some}
-use Rattle.std.specs.BTreeSet.{insert_key}
 use Rattle.swss_types.specs.declared.interface.IfName.{IfName}
 use Rattle.swss_types.specs.declared.interface.IfName.TheVariants as on
 use Rattle.swss_types.specs.declared.address.Ip.{Ip}
@@ -15,14 +14,14 @@ use Rattle.table_schema.specs.declared.row.Row.TheVariants as row
 use Rattle.table_schema.specs.declared.row.RouteRow.{RouteRow}
 use Rattle.table_schema.specs.declared.row.RouteRow.TheVariants as route
 use Rattle.table_schema.specs.declared.row_hop.RowHop.{RowHop}
-use Rattle.sai_types.specs.declared.hop.Hop.{Hop}
+use Rattle.sai_types.specs.declared.weight.WHop.{WHop}
 use Rattle.sai_types.specs.declared.thing.Thing.{Thing}
 use Rattle.sai_types.specs.declared.thing.Thing.TheVariants as thing
 use Rattle.sai_types.specs.Alike.{IsIn}
-use Rattle.sai_types.specs.Named.{hop_cmp}
+use Rattle.sai_types.specs.Hop.{put_hop}
 use Rattle.sai_types.proofs.Things.{both_mapped}
 use Rattle.switch_model.specs.Good.{good_row}
-use Rattle.switch_model.specs.Things.{base_of, hop_of, hops_of, lane_of, members_of}
+use Rattle.switch_model.specs.Things.{base_of, hops_of, lane_of, members_of, whop_of}
 use Rattle.switch_model.proofs.Members.{members_count}
 use Rattle.row_layout.specs.Operations.{Change, Set, going, make_all, own_changes, own_sets, thing_of_port, same_thing, set_all, set_to, shared_going, take_all, uses_of}
 use Rattle.row_layout.specs.Rows as owner
@@ -32,7 +31,7 @@ use Rattle.row_layout.proofs.Members.{from_in, only}
 use Rattle.switch_machine.specs.Flights.{MachineFlight, Machine}
 use Rattle.switch_machine.specs.Operations.{MayBegin, built_first}
 use Rattle.machine_laws.proofs.Completing.{going_length}
-use Rattle.machine_laws.proofs.Fitting.{hop_count, hops-few, insert-few}
+use Rattle.machine_laws.proofs.Fitting.{hop_count, hops-few, put-few}
 
 -- ---- lists of changes
 
@@ -113,16 +112,16 @@ most_shared _ = 1
 abbrev HasFields : Ports → Key → Row → Type 0
 HasFields plan k r = (fields : Option Pairs) × (good_row plan k fields ≡ Some r)
 
-hops_length : (plan : Ports) (hops : List RowHop) (out : List Hop) → hops_of plan hops ≡ Some out → length out ≤ length hops
+hops_length : (plan : Ports) (hops : List (RowHop × ℕ)) (out : List WHop) → hops_of plan hops ≡ Some out → length out ≤ length hops
 hops_length plan [] out h = let same = ap length (same_Some [] out h) in omega (arith, same)
 hops_length plan (x ∷ xs) out h =
-    let m = both_mapped (insert_key hop_cmp) (hops_of plan xs) (hop_of plan x) out h in
+    let m = both_mapped put_hop (hops_of plan xs) (whop_of plan x) out h in
     let rest = hops_length plan xs m.0 m.2 in
-    let one = insert-few hop_cmp m.0 m.1 in
+    let one = put-few m.0 m.1 in
     let same = ap length m.4 in
     omega (arith, rest, one, same)
 
-group_few : (n : ℕ) (o : Option (List Hop)) (p : Owner) → ((out : List Hop) → o ≡ Some out → length out ≤ n) → IsIn p (group_by o) → length (shared_things p) ≤ n + 1
+group_few : (n : ℕ) (o : Option (List WHop)) (p : Owner) → ((out : List WHop) → o ≡ Some out → length out ≤ n) → IsIn p (group_by o) → length (shared_things p) ≤ n + 1
 group_few n None p few h = elim h [ ]
 group_few n (Some []) p few h = elim h [ ]
 group_few n (Some (x ∷ [])) p few h = elim h [ ]

@@ -1,10 +1,8 @@
 -- a good row all of whose names are applied is one of its table
-use Rattle.std.proofs.Common.{◌≡◌, ◌+◌, ◌<◌, ◌≤◌, ◌==◌, ◌&&◌, ◌∷◌, ◌∙◌, ℕ, nat_le, nat_lt, Bool, true, false, cond, List, [], map, length, Option, None, Some, option_map, is_some, Ordering, Result, Ok, Err, codes, refl, sym, ap, subst, arith}
+use Rattle.std.proofs.Common.{◌≡◌, ◌+◌, ◌<◌, ◌≤◌, ◌==◌, ◌&&◌, ◌∷◌, ◌∙◌, ℕ, nat_le, nat_lt, Bool, true, false, cond, List, [], map, length, Option, None, Some, option_map, is_some, Result, Ok, Err, codes, refl, sym, ap, subst, arith}
 use Rattle.std.proofs.lemmas.Bool.{eqb-true, and_parts}
 use Rattle.std.proofs.lemmas.List.Splits.{length-slice_split}
-use Rattle.std.specs.BTreeSet.{insert_key}
 use Rattle.std.specs.List.{AllByRecursion}
-use Rattle.std.specs.Ordering.{match_ordering}
 use Rattle.std.specs.declared.cmp.Ordering.TheVariants.{Less, Equal, Greater}
 use Rattle.swss_types.specs.Interface.{if_name_of}
 use Rattle.swss_types.specs.Ip.{ip_of}
@@ -19,7 +17,7 @@ use Rattle.swss_types.proofs.Most.{most_by_test}
 use Rattle.swss_types.proofs.Choices.{some_by as there}
 use Rattle.table_schema.specs.Broken.{and_then, bad}
 use Rattle.table_schema.specs.Fields.{Pairs, value_of}
-use Rattle.table_schema.specs.Hop.{row_hop_cmp}
+use Rattle.table_schema.specs.Hop.{put_row_hop, row_hop_cmp}
 use Rattle.table_schema.specs.KeyText.{on_switch}
 use Rattle.table_schema.specs.Names.{base_names, names_of, route_names}
 use Rattle.table_schema.specs.Plan.{Ports, lanes_in_plan}
@@ -36,16 +34,18 @@ use Rattle.table_schema.specs.declared.row.Row.TheVariants as row
 use Rattle.table_schema.specs.declared.row.RouteRow.{RouteRow}
 use Rattle.table_schema.specs.declared.row.RouteRow.TheVariants as route
 use Rattle.table_schema.specs.declared.row_hop.RowHop.{RowHop}
-use Rattle.table_schema.proofs.Hops.{AllByRecursion-insert_key}
+use Rattle.table_schema.proofs.Hops.{AllByRecursion-put_row_hop, placed_row}
 use Rattle.table_schema.proofs.ProperKeys.{on_switch_stays}
 use Rattle.table_schema.proofs.ProperNames.{both_hold}
 use Rattle.sai_types.specs.declared.hop.Base.{Base}
 use Rattle.sai_types.specs.declared.hop.Base.TheVariants as base
 use Rattle.sai_types.specs.declared.hop.Hop.{Hop}
+use Rattle.sai_types.specs.declared.weight.WHop.{WHop}
 use Rattle.sai_types.specs.declared.thing.Goal.{Goal}
 use Rattle.sai_types.specs.declared.thing.Goal.TheVariants as goal
+use Rattle.sai_types.specs.Hop.{hop_cmp, put_hop}
 use Rattle.sai_types.specs.Named.{both, first_lane}
-use Rattle.sai_types.specs.Named as named
+use Rattle.sai_types.proofs.Weights.{placed}
 use Rattle.switch_model.specs.Desired.{IsClosed, have_rows}
 use Rattle.switch_model.specs.Good.{TypedRows, good_row}
 use Rattle.switch_model.specs.Things.{base_of, lane_of}
@@ -99,6 +99,9 @@ other_bad (Some parts) r h = other_if _ r _ _ h
 abbrev IsSwitched : RowHop → Type 0
 IsSwitched h = on_switch (Some h.on) ≡ Some h.on
 
+abbrev AreSwitched : List (RowHop × ℕ) → Type 0
+AreSwitched hops = AllByRecursion (λ h. IsSwitched h.0) hops
+
 hop_at_ok : (several : Bool) (on : IfName) (ip : Option Ip) (h : RowHop) → hop_at several on ip ≡ Ok h → h.on ≡ on
 hop_at_ok several on None h e = absurd cc
 hop_at_ok several on (Some ip) h e = by (several && is_zero ip) e
@@ -111,53 +114,63 @@ hop_on_ok : (several : Bool) (text : List ℕ) (on : Option IfName) (ip : Option
 hop_on_ok several text None ip h is e = absurd cc
 hop_on_ok several text (Some on) ip h is e = subst (λ z. on_switch (Some z) ≡ Some z) (sym (hop_at_ok several on ip h e)) (on_switch_stays (if_name_of text) on is).1
 
-hops_with_ok : (several : Bool) (hops : List RowHop) (ips names : List (List ℕ)) (out : List RowHop) → AllByRecursion IsSwitched hops → hops_with several hops ips names ≡ Ok out → AllByRecursion IsSwitched out
-hops_with_ok several hops [] names out all h = subst (AllByRecursion IsSwitched) (same_okay hops out h) all
-hops_with_ok several hops (ip ∷ ips) [] out all h = subst (AllByRecursion IsSwitched) (same_okay hops out h) all
+hops_with_ok : (several : Bool) (hops : List (RowHop × ℕ)) (ips names : List (List ℕ)) (out : List (RowHop × ℕ)) → AreSwitched hops → hops_with several hops ips names ≡ Ok out → AreSwitched out
+hops_with_ok several hops [] names out all h = subst AreSwitched (same_okay hops out h) all
+hops_with_ok several hops (ip ∷ ips) [] out all h = subst AreSwitched (same_okay hops out h) all
 hops_with_ok several hops (ip ∷ ips) (on ∷ names) out all h =
-    let x = both_hold (hop_of_texts several ip on) (λ hop. hops_with several (insert_key row_hop_cmp hops hop) ips names) out h in
-    hops_with_ok several (insert_key row_hop_cmp hops x.0) ips names out (AllByRecursion-insert_key IsSwitched hops x.0 (hop_on_ok several on (on_switch (if_name_of on)) (ip_of ip) x.0 refl x.1) all) x.2
+    let x = both_hold (hop_of_texts several ip on) (λ hop. hops_with several (put_row_hop hops hop 1) ips names) out h in
+    hops_with_ok several (put_row_hop hops x.0 1) ips names out (AllByRecursion-put_row_hop (λ h. IsSwitched h.0) hops x.0 1 (hop_on_ok several on (on_switch (if_name_of on)) (ip_of ip) x.0 refl x.1) (λ h on. on) all) x.2
 
-some_hop : {A : Type 0} (cmp : A → A → Ordering) (hops : List A) (hop : A) → 0 < length (insert_key cmp hops hop)
-some_hop cmp [] hop = omega arith
-some_hop {A} cmp (x ∷ hops) hop = elim (cmp hop x) as (λ r. 0 < length (match_ordering r (hop ∷ x ∷ hops) (x ∷ hops) (x ∷ insert_key cmp hops hop))) [ Less ↦ omega arith | Equal ↦ omega arith | Greater ↦ omega arith ]
+some_row : (hops : List (RowHop × ℕ)) (hop : RowHop) (weight : ℕ) → 0 < length (put_row_hop hops hop weight)
+some_row [] hop weight = omega arith
+some_row (x ∷ hops) hop weight = elim (row_hop_cmp hop x.0) as (λ r. 0 < length (placed_row r x hops hop weight)) [ Less ↦ omega arith | Equal ↦ omega arith | Greater ↦ omega arith ]
 
 -- a hop more makes at most one more
-pub insert-few : {A : Type 0} (cmp : A → A → Ordering) (hops : List A) (hop : A) → length (insert_key cmp hops hop) ≤ length hops + 1
-insert-few cmp [] hop = omega arith
-insert-few {A} cmp (x ∷ hops) hop =
-    let rest = insert-few cmp hops hop in
-    elim (cmp hop x) as (λ r. length (match_ordering r (hop ∷ x ∷ hops) (x ∷ hops) (x ∷ insert_key cmp hops hop)) ≤ length (x ∷ hops) + 1) [ Less ↦ omega arith | Equal ↦ omega arith | Greater ↦ omega (arith, rest) ]
+row-few : (hops : List (RowHop × ℕ)) (hop : RowHop) (weight : ℕ) → length (put_row_hop hops hop weight) ≤ length hops + 1
+row-few [] hop weight = omega arith
+row-few (x ∷ hops) hop weight =
+    let rest = row-few hops hop weight in
+    elim (row_hop_cmp hop x.0) as (λ r. length (placed_row r x hops hop weight) ≤ length (x ∷ hops) + 1) [ Less ↦ omega arith | Equal ↦ omega arith | Greater ↦ omega (arith, rest) ]
 
-hops_with_few : (several : Bool) (hops : List RowHop) (ips names : List (List ℕ)) (out : List RowHop) → hops_with several hops ips names ≡ Ok out → length out ≤ length hops + length ips
+some_hop : (hops : List WHop) (hop : WHop) → 0 < length (put_hop hops hop)
+some_hop [] hop = omega arith
+some_hop (x ∷ hops) hop = elim (hop_cmp hop.hop x.hop) as (λ r. 0 < length (placed r x hops hop)) [ Less ↦ omega arith | Equal ↦ omega arith | Greater ↦ omega arith ]
+
+pub put-few : (hops : List WHop) (hop : WHop) → length (put_hop hops hop) ≤ length hops + 1
+put-few [] hop = omega arith
+put-few (x ∷ hops) hop =
+    let rest = put-few hops hop in
+    elim (hop_cmp hop.hop x.hop) as (λ r. length (placed r x hops hop) ≤ length (x ∷ hops) + 1) [ Less ↦ omega arith | Equal ↦ omega arith | Greater ↦ omega (arith, rest) ]
+
+hops_with_few : (several : Bool) (hops : List (RowHop × ℕ)) (ips names : List (List ℕ)) (out : List (RowHop × ℕ)) → hops_with several hops ips names ≡ Ok out → length out ≤ length hops + length ips
 hops_with_few several hops [] names out h = let same = ap length (same_okay hops out h) in omega (arith, same)
 hops_with_few several hops (ip ∷ ips) [] out h = let same = ap length (same_okay hops out h) in omega (arith, same)
 hops_with_few several hops (ip ∷ ips) (on ∷ names) out h =
-    let x = both_hold (hop_of_texts several ip on) (λ hop. hops_with several (insert_key row_hop_cmp hops hop) ips names) out h in
-    let rest = hops_with_few several (insert_key row_hop_cmp hops x.0) ips names out x.2 in
-    let one = insert-few row_hop_cmp hops x.0 in
+    let x = both_hold (hop_of_texts several ip on) (λ hop. hops_with several (put_row_hop hops hop 1) ips names) out h in
+    let rest = hops_with_few several (put_row_hop hops x.0 1) ips names out x.2 in
+    let one = row-few hops x.0 1 in
     omega (arith, rest, one)
 
-stay_some : (several : Bool) (hops : List RowHop) (ips names : List (List ℕ)) (out : List RowHop) → 0 < length hops → hops_with several hops ips names ≡ Ok out → 0 < length out
+stay_some : (several : Bool) (hops : List (RowHop × ℕ)) (ips names : List (List ℕ)) (out : List (RowHop × ℕ)) → 0 < length hops → hops_with several hops ips names ≡ Ok out → 0 < length out
 stay_some several hops [] names out some h = subst (λ z. 0 < length z) (same_okay hops out h) some
 stay_some several hops (ip ∷ ips) [] out some h = subst (λ z. 0 < length z) (same_okay hops out h) some
 stay_some several hops (ip ∷ ips) (on ∷ names) out some h =
-    let x = both_hold (hop_of_texts several ip on) (λ hop. hops_with several (insert_key row_hop_cmp hops hop) ips names) out h in
-    stay_some several (insert_key row_hop_cmp hops x.0) ips names out (some_hop row_hop_cmp hops x.0) x.2
+    let x = both_hold (hop_of_texts several ip on) (λ hop. hops_with several (put_row_hop hops hop 1) ips names) out h in
+    stay_some several (put_row_hop hops x.0 1) ips names out (some_row hops x.0 1) x.2
 
-read_hops_some : (several : Bool) (ips names : List (List ℕ)) (out : List RowHop) → 0 < length ips → length ips ≡ length names → hops_with several [] ips names ≡ Ok out → 0 < length out
+read_hops_some : (several : Bool) (ips names : List (List ℕ)) (out : List (RowHop × ℕ)) → 0 < length ips → length ips ≡ length names → hops_with several [] ips names ≡ Ok out → 0 < length out
 read_hops_some several [] names out some same h = absurd (omega (arith, some))
 read_hops_some several (ip ∷ ips) [] out some same h = absurd (omega (arith, same))
 read_hops_some several (ip ∷ ips) (on ∷ names) out some same h =
-    let x = both_hold (hop_of_texts several ip on) (λ hop. hops_with several (insert_key row_hop_cmp [] hop) ips names) out h in
-    stay_some several (insert_key row_hop_cmp [] x.0) ips names out (some_hop row_hop_cmp [] x.0) x.2
+    let x = both_hold (hop_of_texts several ip on) (λ hop. hops_with several (put_row_hop [] hop 1) ips names) out h in
+    stay_some several (put_row_hop [] x.0 1) ips names out (some_row [] x.0 1) x.2
 
-record AreSwitchedHops (out : List RowHop) : Type 0 where
-  all : AllByRecursion IsSwitched out
+record AreSwitchedHops (out : List (RowHop × ℕ)) : Type 0 where
+  all : AreSwitched out
   some : 0 < length out
   few : length out ≤ 128
 
-hops_ok : (ips names : List (List ℕ)) (out : List RowHop) → 0 < length ips → hops_of_texts ips names ≡ Ok out → AreSwitchedHops out
+hops_ok : (ips names : List (List ℕ)) (out : List (RowHop × ℕ)) → 0 < length ips → hops_of_texts ips names ≡ Ok out → AreSwitchedHops out
 hops_ok ips names out some h = counted (length ips == length names) refl h
   where
     few : (b : Bool) → nat_le (length ips) 128 ≡ b → length ips ≡ length names → cond b (hops_with (nat_lt 1 (length ips)) [] ips names) (bad TooManyHops 7) ≡ Ok out → AreSwitchedHops out
@@ -173,7 +186,7 @@ hops_ok ips names out some h = counted (length ips == length names) refl h
 
 data IsTarget (t : RouteRow) : Type 0 where
   IsDrop : t ≡ route.Drop → IsTarget t
-  Goes : (out : List RowHop) → AreSwitchedHops out → t ≡ target_of_hops out → IsTarget t
+  Goes : (out : List (RowHop × ℕ)) → AreSwitchedHops out → t ≡ target_of_hops out → IsTarget t
 
 forwarding_ok : (fields : Pairs) (t : RouteRow) → route_hops_of fields ≡ Ok t → IsTarget t
 forwarding_ok fields t h =
@@ -199,11 +212,11 @@ abbrev pub hop_count : RouteRow → ℕ
 hop_count (route.Hops hops) = length hops
 hop_count _ = 0
 
-target_few : (out : List RowHop) → hop_count (target_of_hops out) ≤ length out
+target_few : (out : List (RowHop × ℕ)) → hop_count (target_of_hops out) ≤ length out
 target_few [] = omega arith
-target_few (x ∷ []) = by (is_zero x.ip)
+target_few (x ∷ []) = by (is_zero x.0.ip)
   where
-    by : (b : Bool) → hop_count (cond b (route.Direct x.on) (route.Hops (x ∷ []))) ≤ 1
+    by : (b : Bool) → hop_count (cond b (route.Direct x.0.on) (route.Hops (x ∷ []))) ≤ 1
     by true = omega arith
     by false = omega arith
 target_few (x ∷ y ∷ zs) = omega arith
@@ -253,31 +266,32 @@ module _ (plan : Ports) (applied : TypedRows) (fit : (q : Key) (x : Row) → app
       let b = neigh_base h.on h.ip r.0 (fit (key.Neigh h.on h.ip) r.0 r.1) in
       (record { on = b.0; ip = h.ip }, ap (option_map (λ z. record { on = z; ip = h.ip })) b.1)
 
-  hops_there : (hops : List RowHop) → have_rows applied (map (λ h. key.Neigh h.on h.ip) hops) ≡ true → (out : List Hop) × (things.hops_of plan hops ≡ Some out) × (0 < length hops → 0 < length out)
+  hops_there : (hops : List (RowHop × ℕ)) → have_rows applied (map (λ h. key.Neigh h.0.on h.0.ip) hops) ≡ true → (out : List WHop) × (things.hops_of plan hops ≡ Some out) × (0 < length hops → 0 < length out)
   hops_there [] h = ([], refl, λ some. some)
   hops_there (x ∷ xs) h =
-      let parts = and_parts (is_some (applied (key.Neigh x.on x.ip))) (have_rows applied (map (λ h. key.Neigh h.on h.ip) xs)) h in
-      let one = hop_there x parts.0 in
+      let parts = and_parts (is_some (applied (key.Neigh x.0.on x.0.ip))) (have_rows applied (map (λ h. key.Neigh h.0.on h.0.ip) xs)) h in
+      let one = hop_there x.0 parts.0 in
       let rest = hops_there xs parts.1 in
-      (insert_key named.hop_cmp rest.0 one.0, (ap (λ z. both (insert_key named.hop_cmp) z (things.hop_of plan x)) rest.1 ∙ ap (both (insert_key named.hop_cmp) (Some rest.0)) one.1), λ some. some_hop named.hop_cmp rest.0 one.0)
+      let weighed : Hop → WHop = λ z. record { hop = z; weight = x.1 } in
+      (put_hop rest.0 (weighed one.0), (ap (λ z. both put_hop z (things.whop_of plan x)) rest.1 ∙ ap (λ o. both put_hop (Some rest.0) (option_map weighed o)) one.1), λ some. some_hop rest.0 (weighed one.0))
 
-  goal_some : (out : List Hop) → 0 < length out → (g : Goal) × (goal_to (Some out) ≡ Some g)
+  goal_some : (out : List WHop) → 0 < length out → (g : Goal) × (goal_to (Some out) ≡ Some g)
   goal_some [] some = absurd (omega (arith, some))
-  goal_some (x ∷ []) some = (goal.Via x, refl)
+  goal_some (x ∷ []) some = (goal.Via x.hop, refl)
   goal_some (x ∷ y ∷ zs) some = (goal.Group (x ∷ y ∷ zs), refl)
 
-  hops_goal : (hops : List RowHop) → 0 < length hops → have_rows applied (map (λ h. key.Neigh h.on h.ip) hops) ≡ true → (g : Goal) × (goal_of plan (route.Hops hops) ≡ Some g)
+  hops_goal : (hops : List (RowHop × ℕ)) → 0 < length hops → have_rows applied (map (λ h. key.Neigh h.0.on h.0.ip) hops) ≡ true → (g : Goal) × (goal_of plan (route.Hops hops) ≡ Some g)
   hops_goal hops some h =
       let x = hops_there hops h in
       let g = goal_some x.0 (x.2 some) in
       (g.0, ap goal_to x.1 ∙ g.1)
 
-  target_goal : (out : List RowHop) → AreSwitchedHops out → have_rows applied (route_names (target_of_hops out)) ≡ true → (g : Goal) × (goal_of plan (target_of_hops out) ≡ Some g)
+  target_goal : (out : List (RowHop × ℕ)) → AreSwitchedHops out → have_rows applied (route_names (target_of_hops out)) ≡ true → (g : Goal) × (goal_of plan (target_of_hops out) ≡ Some g)
   target_goal [] are h = absurd (let some = are.some in omega (arith, some))
-  target_goal (x ∷ []) are h = by (is_zero x.ip) h
+  target_goal (x ∷ []) are h = by (is_zero x.0.ip) h
     where
-      by : (b : Bool) → have_rows applied (route_names (cond b (route.Direct x.on) (route.Hops (x ∷ [])))) ≡ true → (g : Goal) × (goal_of plan (cond b (route.Direct x.on) (route.Hops (x ∷ []))) ≡ Some g)
-      by true h = let b = base_there x.on are.all.0 (and_parts (is_some (applied (key.Intf x.on))) true h).0 in (goal.Direct b.0, ap (option_map goal.Direct) b.1)
+      by : (b : Bool) → have_rows applied (route_names (cond b (route.Direct x.0.on) (route.Hops (x ∷ [])))) ≡ true → (g : Goal) × (goal_of plan (cond b (route.Direct x.0.on) (route.Hops (x ∷ []))) ≡ Some g)
+      by true h = let b = base_there x.0.on are.all.0 (and_parts (is_some (applied (key.Intf x.0.on))) true h).0 in (goal.Direct b.0, ap (option_map goal.Direct) b.1)
       by false h = hops_goal (x ∷ []) are.some h
   target_goal (x ∷ y ∷ zs) are h = hops_goal (x ∷ y ∷ zs) are.some h
 

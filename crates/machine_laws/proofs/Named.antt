@@ -1,6 +1,5 @@
 -- a route that the chip shows is one that stands
 use Rattle.std.proofs.Common.{◌≡◌, ◌∙◌, inl, inr, ℕ, List, Option, None, Some, option_map, refl, sym, ap, subst}
-use Rattle.std.specs.List.Sorted.{IsStrictlySortedBy}
 use Rattle.std.proofs.lemmas.Option.{same_Some}
 use Rattle.swss_types.specs.declared.address.Prefix.{Prefix}
 use Rattle.table_schema.specs.Plan.{Ports}
@@ -9,7 +8,7 @@ use Rattle.table_schema.specs.declared.key.Key.TheVariants as key
 use Rattle.table_schema.specs.declared.row.Row.{Row}
 use Rattle.sai_types.specs.declared.ids.Rid.{Rid}
 use Rattle.sai_types.specs.declared.hop.Base.TheVariants as base
-use Rattle.sai_types.specs.declared.hop.Hop.{Hop}
+use Rattle.sai_types.specs.declared.weight.WHop.{WHop}
 use Rattle.sai_types.specs.declared.body.Body.TheVariants as body
 use Rattle.sai_types.specs.declared.body.Entry.{Entry}
 use Rattle.sai_types.specs.declared.body.Entry.TheVariants as entry
@@ -19,16 +18,17 @@ use Rattle.sai_types.specs.declared.thing.Thing.{Thing}
 use Rattle.sai_types.specs.declared.thing.Thing.TheVariants as thing
 use Rattle.sai_types.specs.After.{entry_of}
 use Rattle.sai_types.specs.Alike.{IsIn}
+use Rattle.sai_types.specs.Hop.{AreRisingHops}
 use Rattle.sai_types.specs.Made.{IsWhole}
 use Rattle.sai_types.specs.Objects.{Objects}
-use Rattle.sai_types.specs.Named.{both, hop_cmp, hops_at, named, thing_of}
+use Rattle.sai_types.specs.Named.{both, hops_at, named, thing_of}
 use Rattle.sai_types.proofs.Found.{same-symm}
 use Rattle.chip_layout.specs.Bodies.{IsAt, body_with, first_name, goal_name, to_with}
 use Rattle.chip_layout.specs.Layout.{Has, IsLaidOut, listed}
 use Rattle.sai_types.specs.Names as name
 use Rattle.sai_types.proofs.Listed.{found-in, in-found, object-of_thing}
 use Rattle.chip_layout.proofs.Naming.{among, next_hop_named, rif_by}
-use Rattle.sai_types.proofs.Rising.{hop_exact, hop_total, same-rising}
+use Rattle.sai_types.proofs.Weights.{same-hops}
 use Rattle.row_layout.specs.Rows as owner
 use Rattle.row_layout.specs.Rows.{Owner}
 use Rattle.row_layout.specs.Shared.{shared_things, uses}
@@ -54,22 +54,22 @@ module _ (plan : Ports) (m : Machine) (sound : IsConsistent plan m) (made : ℕ)
   user_row k o (inr (rests, h)) = let r = use_row_in plan k (m.board.applied k) o h in (k, r.0, r.2)
 
   -- the group that a standing route points at shows its hops
-  group_named : (i : Rid) (p : Prefix) (hops : List Hop) (g : Rid) → listed m.stands i (thing.Route p (goal.Group hops)) → Has (listed m.stands) (name.Group hops) g → hops_at objects g ≡ Some hops
+  group_named : (i : Rid) (p : Prefix) (hops : List WHop) (g : Rid) → listed m.stands i (thing.Route p (goal.Group hops)) → Has (listed m.stands) (name.Group hops) g → hops_at objects g ≡ Some hops
   group_named i p hops g at group =
-      let these = among (listed m.stands) objects laid g hops group objects (λ x b i. found-in objects x b whole.sorted i) in
-      these.is ∙ ap Some (same-rising hop_cmp hop_total hop_exact these.those hops these.rising rising (λ hop h. let x = these.sound hop h in only hop (sound.held (owner.Group hops) (thing.GroupMember hops hop) x refl tt).0) (λ hop h.
+      let these = among (listed m.stands) objects laid g hops group whole.apart objects (λ x b i. found-in objects x b whole.sorted i) in
+      these.is ∙ ap Some (same-hops these.those hops these.rising rising (λ hop h. let x = these.sound hop h in only hop (sound.held (owner.Group hops) (thing.GroupMember hops hop) x refl tt).0) (λ hop h.
       let x = sound.steady (key.Route p) (owner.Group hops) (thing.Route p (goal.Group hops)) (thing.GroupMember hops hop) (name.Group hops) (i, at) refl (inl refl) refl tt (inr (in_members hops hops hop h)) in
       let has = laid.stand x.0 (thing.GroupMember hops hop) x.1 in
       let object = in-found objects (entry_of x.0.0 has.0) has.0 has.2 in
       these.all object.0 has.0 x.0 hop object.2 x.1 has.1 (same-symm object.0 (entry_of x.0.0 has.0) ∙ object.1)))
     where
-      rising : IsStrictlySortedBy hop_cmp hops
+      rising : AreRisingHops hops
       rising =
           let user = sound.used (key.Route p) (owner.Group hops) (thing.Route p (goal.Group hops)) (name.Group hops) (i, at) refl (inl refl) refl tt in
           let row = user_row (key.Route p) (owner.Group hops) user in
           group_rising plan row.0 row.1 (owner.Group hops) hops row.2 refl
 
-      only : (hop : Hop) → IsIn (thing.GroupMember hops hop) (shared_things (owner.Group hops)) → IsIn hop hops
+      only : (hop : WHop) → IsIn (thing.GroupMember hops hop) (shared_things (owner.Group hops)) → IsIn hop hops
       only hop (inl e) = absurd cc
       only hop (inr h) = member_hop hops hops hop h
 

@@ -1,11 +1,12 @@
 -- the call that is due of a group's operation
 use Rattle.std.proofs.Common.{◌≡◌, ◌<◌, ◌+◌, inl, inr, ℕ, zero, suc, Bool, true, false, List, [], ◌∷◌, ◌++◌, drop, length, Some, None, IsSome, slice_get, get_or, refl, sym, ap, subst, ◌∙◌, arith}
-use Rattle.std.proofs.lemmas.Option.{slice_get-get_or}
+use Rattle.std.proofs.lemmas.Option.{same_Some, slice_get-get_or}
 use Rattle.table_schema.specs.Plan.{Ports}
 use Rattle.table_schema.specs.declared.key.Key.{Key}
 use Rattle.sai_types.specs.Hop.{AreRisingHops}
 use Rattle.sai_types.specs.Names as thing_name
 use Rattle.sai_types.specs.declared.ids.Vid.{Vid}
+use Rattle.sai_types.specs.declared.weight.WHop.{WHop}
 use Rattle.sai_types.specs.declared.body.Body.TheVariants as body
 use Rattle.sai_types.specs.declared.body.Entry.TheVariants as entry
 use Rattle.sai_types.specs.declared.body.Call.TheVariants as call
@@ -22,7 +23,7 @@ use Rattle.orch_flight.specs.Calling.{members_ids, row_vid}
 use Rattle.orch_flight.specs.Grouping.{GroupOperation, IsGroupNextOf, IsGroupOver, KnowsGroupIds}
 use Rattle.nexthop_orch.specs.Groups.{group_operation, hops_named}
 use Rattle.nexthop_orch.proofs.Dues.{due-over, last-taken, member-made, member-taken}
-use Rattle.nexthop_orch.proofs.Members.{all-at, member-at, member-in, neighbour-at}
+use Rattle.nexthop_orch.proofs.Members.{all-at, member-at, member-in, neighbour-at, neighbour_of}
 
 -- a group's operation, from what its fields are known to be
 pub group_operation_told : (f : GroupOperation) (w : ℕ) (n : Name) (b b' : Bool) (keys : List Key) (made : List Vid) (d d' : ℕ) → group_operation w n b keys made d ≡ f → b ≡ b' → d ≡ d' → f ≡ group_operation w n b' keys made d'
@@ -64,23 +65,28 @@ module _ (names : Names) (w : ℕ) (n : Name) (keys : List Key) (made : List Vid
       },
     )
 
-    pub next-member : (i : ℕ) (k : Key) (v v' u : Vid) (f : GroupOperation) → f ≡ group_operation w n true keys made (suc i) → v ≡ get_or made 0 v' → length made ≡ suc i → slice_get keys i ≡ Some k → first_of (ids_of names (name.Row k)) ≡ Some u → IsGroupOver plan f → IsGroupNextOf plan names f (next.Call (call.Create (body.GroupMember v u)))
-    next-member i k v v' u f is head long at known = subst (λ z. IsGroupOver plan z → IsGroupNextOf plan names z (next.Call (call.Create (body.GroupMember v u)))) (sym is) by
+    pub next-member : (i : ℕ) (hop : WHop) (k : Key) (v v' u : Vid) (f : GroupOperation) → f ≡ group_operation w n true keys made (suc i) → v ≡ get_or made 0 v' → length made ≡ suc i → slice_get f.hops i ≡ Some hop → slice_get keys i ≡ Some k → first_of (ids_of names (name.Row k)) ≡ Some u → IsGroupOver plan f → IsGroupNextOf plan names f (next.Call (call.Create (body.GroupMember v u hop.weight)))
+    next-member i hop k v v' u f is head long here at known = subst (λ z. slice_get z.hops i ≡ Some hop → IsGroupOver plan z → IsGroupNextOf plan names z (next.Call (call.Create (body.GroupMember v u hop.weight)))) (sym is) by here
       where
-        by : IsGroupOver plan (group_operation w n true keys made (suc i)) → IsGroupNextOf plan names (group_operation w n true keys made (suc i)) (next.Call (call.Create (body.GroupMember v u)))
-        by over =
+        by : slice_get (hops_named n) i ≡ Some hop → IsGroupOver plan (group_operation w n true keys made (suc i)) → IsGroupNextOf plan names (group_operation w n true keys made (suc i)) (next.Call (call.Create (body.GroupMember v u hop.weight)))
+        by here over =
             let hops = hops_named n in
             let (keys_are, same) = over refl in
-            let (hop, there, named) = neighbour-at plan hops i k (ap length (sym keys_are) ∙ same) (ap (λ l. slice_get l i) (sym keys_are) ∙ at) in (
+            let (other, there, named) = neighbour-at plan hops i k (ap length (sym keys_are) ∙ same) (ap (λ l. slice_get l i) (sym keys_are) ∙ at) in
+            let told : neighbour_of plan hop ≡ Some k = subst (λ z. neighbour_of plan z ≡ Some k) (same_Some other hop (sym there ∙ here)) named in (
               Make (thing.GroupMember hops hop),
               drop (suc i) (make_all (members_of hops hops) []),
-              member-made hops hops i hop there,
+              member-made hops hops i hop here,
               record {
-                body = body.GroupMember v u;
-                of = record { first = v; second = u; first_at = (refl, first-there made v (slice_get-get_or made 0 v' (omega (arith, long)) ∙ ap Some (sym head))); second_at = ap (row_vid names) named ∙ known; body_is = refl };
+                body = body.GroupMember v u hop.weight;
+                of = record { first = v; second = u; first_at = (refl, first-there made v (slice_get-get_or made 0 v' (omega (arith, long)) ∙ ap Some (sym head))); second_at = ap (row_vid names) told ∙ known; body_is = refl };
                 is = refl;
               },
             )
+
+    -- behind the last member nothing is due
+    pub next-none : (i : ℕ) (f : GroupOperation) → f ≡ group_operation w n true keys made (suc i) → slice_get f.hops i ≡ None → f.due ≡ []
+    next-none i f is = subst (λ z. slice_get z.hops i ≡ None → z.due ≡ []) (sym is) (λ none. due-over (hops_named n) true (suc i) (past-none (hops_named n) i none))
 
     pub next-built : (i : ℕ) (f : GroupOperation) → f ≡ group_operation w n true keys made (suc i) → slice_get keys i ≡ None → IsGroupOver plan f → f.due ≡ []
     next-built i f is none = subst (λ z. IsGroupOver plan z → z.due ≡ []) (sym is) (λ over. due-over (hops_named n) true (suc i) (subst (λ m. m < suc i) (over refl).1 (past-none keys i none)))
@@ -111,7 +117,7 @@ module _ (names : Names) (w : ℕ) (n : Name) (keys : List Key) (made : List Vid
                 same = refl;
                 entry = entry.Oid v;
                 of = record {
-                  body = body.GroupMember v v;
+                  body = body.GroupMember v v hop.weight;
                   of = record { first = v; second = v; first_at = λ e. elim e [ ]; second_at = λ e. elim e [ ]; body_is = refl };
                   id = v;
                   numbered = λ _. (refl, member-at hops (members_ids ids) i hop v rising there (behind-first ids i v (found given (i + 1) (suc i) d group are (omega arith) (omega (arith, within, count)))));

@@ -11,12 +11,13 @@ use Rattle.table_schema.specs.Plan.{Ports}
 use Rattle.table_schema.specs.declared.key.Key.{Key}
 use Rattle.table_schema.specs.declared.key.Key.TheVariants as key
 use Rattle.sai_types.specs.Alike.{IsIn}
-use Rattle.sai_types.specs.Hop.{AreRisingHops, hop_cmp}
+use Rattle.sai_types.specs.Hop.{AreRisingHops, whop_cmp}
 use Rattle.sai_types.specs.Named.{those}
-use Rattle.sai_types.specs.declared.hop.Hop.{Hop}
+use Rattle.sai_types.specs.declared.weight.WHop.{WHop}
 use Rattle.sai_types.specs.declared.ids.Vid.{Vid}
 use Rattle.sai_types.specs.declared.thing.Thing.TheVariants as thing
-use Rattle.sai_types.specs.contracts.hop.HopOrd.TheImpl.Laws as ordered_hop
+use Rattle.sai_types.proofs.Rising.{whop_total}
+use Rattle.sai_types.proofs.Weights.{rising-weighed}
 use Rattle.switch_model.specs.Things.{members_of}
 use Rattle.row_layout.specs.Rows.{interface_on}
 use Rattle.orch_flight.specs.Calling.{member_vid}
@@ -28,7 +29,7 @@ all-at P [] i x all is = absurd (none-some x is)
 all-at P (y ∷ ys) zero x all is = subst P (same_Some y x is) all.0
 all-at P (y ∷ ys) (suc i) x all is = all-at P ys i x all.1 is
 
-pub member-in : (all hops : List Hop) (i : ℕ) (hop : Hop) → slice_get hops i ≡ Some hop → IsIn (thing.GroupMember all hop) (members_of all hops)
+pub member-in : (all hops : List WHop) (i : ℕ) (hop : WHop) → slice_get hops i ≡ Some hop → IsIn (thing.GroupMember all hop) (members_of all hops)
 member-in all [] i hop is = absurd (none-some hop is)
 member-in all (h ∷ hs) zero hop is = inl (ap (thing.GroupMember all) (sym (same_Some h hop is)))
 member-in all (h ∷ hs) (suc i) hop is = inr (member-in all hs i hop is)
@@ -36,39 +37,42 @@ member-in all (h ∷ hs) (suc i) hop is = inr (member-in all hs i hop is)
 -- ---- neighbours
 
 -- the neighbour of a hop
-abbrev pub neighbour_of : Ports → Hop → Option Key
-neighbour_of plan hop = option_map (λ n. key.Neigh n hop.ip) (interface_on plan hop.on)
+abbrev pub neighbour_of : Ports → WHop → Option Key
+neighbour_of plan hop = option_map (λ n. key.Neigh n hop.hop.ip) (interface_on plan hop.hop.on)
 
-fewer_keys_than_hops : (plan : Ports) (hops : List Hop) → length (neighbour_keys plan hops) ≤ length hops
+fewer_keys_than_hops : (plan : Ports) (hops : List WHop) → length (neighbour_keys plan hops) ≤ length hops
 fewer_keys_than_hops plan [] = omega arith
 fewer_keys_than_hops plan (hop ∷ hops) =
     let rest = fewer_keys_than_hops plan hops in
     elim (neighbour_of plan hop) as (λ o. length (those (o ∷ map (neighbour_of plan) hops)) ≤ suc (length hops)) [ None ↦ omega (arith, rest) | Some k ↦ omega (arith, rest) ]
 
 -- the hop of a neighbour, where each hop has one
-pub neighbour-at : (plan : Ports) (hops : List Hop) (i : ℕ) (k : Key) → length (neighbour_keys plan hops) ≡ length hops → slice_get (neighbour_keys plan hops) i ≡ Some k → (hop : Hop) × (slice_get hops i ≡ Some hop) × (neighbour_of plan hop ≡ Some k)
+pub neighbour-at : (plan : Ports) (hops : List WHop) (i : ℕ) (k : Key) → length (neighbour_keys plan hops) ≡ length hops → slice_get (neighbour_keys plan hops) i ≡ Some k → (hop : WHop) × (slice_get hops i ≡ Some hop) × (neighbour_of plan hop ≡ Some k)
 neighbour-at plan [] i k same is = absurd (none-some k is)
 neighbour-at plan (hop ∷ hops) i k same is = by (λ same i is. neighbour-at plan hops i k same is) (neighbour_of plan hop) refl same i is
   where
-    by : (length (neighbour_keys plan hops) ≡ length hops → (i : ℕ) → slice_get (neighbour_keys plan hops) i ≡ Some k → (h : Hop) × (slice_get hops i ≡ Some h) × (neighbour_of plan h ≡ Some k)) → (o : Option Key) → neighbour_of plan hop ≡ o → length (those (o ∷ map (neighbour_of plan) hops)) ≡ suc (length hops) → (i : ℕ) → slice_get (those (o ∷ map (neighbour_of plan) hops)) i ≡ Some k → (h : Hop) × (slice_get (hop ∷ hops) i ≡ Some h) × (neighbour_of plan h ≡ Some k)
+    by : (length (neighbour_keys plan hops) ≡ length hops → (i : ℕ) → slice_get (neighbour_keys plan hops) i ≡ Some k → (h : WHop) × (slice_get hops i ≡ Some h) × (neighbour_of plan h ≡ Some k)) → (o : Option Key) → neighbour_of plan hop ≡ o → length (those (o ∷ map (neighbour_of plan) hops)) ≡ suc (length hops) → (i : ℕ) → slice_get (those (o ∷ map (neighbour_of plan) hops)) i ≡ Some k → (h : WHop) × (slice_get (hop ∷ hops) i ≡ Some h) × (neighbour_of plan h ≡ Some k)
     by rest None at same i is = let less = fewer_keys_than_hops plan hops in absurd (omega (arith, less, same))
     by rest (Some q) at same zero is = (hop, refl, at ∙ is)
     by rest (Some q) at same (suc i) is = rest (omega (arith, same)) i is
 
 -- ---- the identifiers of members
 
-at-itself : (hop : Hop) → is_at (hop_cmp hop) hop ≡ true
-at-itself hop = ap is_eq (tied_itself ordered_hop.total-law hop)
+at-itself : (hop : WHop) → is_at (whop_cmp hop) hop ≡ true
+at-itself hop = ap is_eq (tied_itself whop_total hop)
 
-at-later : (h hop : Hop) (hs : List Hop) (i : ℕ) → AllByRecursion (λ y. hop_cmp h y ≡ Less) hs → slice_get hs i ≡ Some hop → is_at (hop_cmp h) hop ≡ false
-at-later h hop hs i below is = ap is_eq (all-at (λ y. hop_cmp h y ≡ Less) hs i hop below is)
+at-later : (h hop : WHop) (hs : List WHop) (i : ℕ) → AllByRecursion (λ y. whop_cmp h y ≡ Less) hs → slice_get hs i ≡ Some hop → is_at (whop_cmp h) hop ≡ false
+at-later h hop hs i below is = ap is_eq (all-at (λ y. whop_cmp h y ≡ Less) hs i hop below is)
+
+member_at : (hops : List WHop) (vs : List Vid) (i : ℕ) (hop : WHop) (v : Vid) → IsStrictlySortedBy whop_cmp hops → slice_get hops i ≡ Some hop → slice_get vs i ≡ Some v → member_vid hops hop vs ≡ Some v
+unfolding IsStrictlySortedBy
+member_at [] vs i hop v rising is at = absurd (none-some hop is)
+member_at (h ∷ hs) [] i hop v rising is at = absurd (none-some v at)
+member_at (h ∷ hs) (w ∷ ws) zero hop v rising is at =
+    ap (λ b. if b then Some w else member_vid hs hop ws) (subst (λ z. is_at (whop_cmp h) z ≡ true) (same_Some h hop is) (at-itself h)) ∙ at
+member_at (h ∷ hs) (w ∷ ws) (suc i) hop v rising is at =
+    ap (λ b. if b then Some w else member_vid hs hop ws) (at-later h hop hs i rising.0 is) ∙ member_at hs ws i hop v rising.1 is at
 
 -- the identifier that stands in a hop's place is that of its member
-pub member-at : (hops : List Hop) (vs : List Vid) (i : ℕ) (hop : Hop) (v : Vid) → AreRisingHops hops → slice_get hops i ≡ Some hop → slice_get vs i ≡ Some v → member_vid hops hop vs ≡ Some v
-unfolding IsStrictlySortedBy
-member-at [] vs i hop v rising is at = absurd (none-some hop is)
-member-at (h ∷ hs) [] i hop v rising is at = absurd (none-some v at)
-member-at (h ∷ hs) (w ∷ ws) zero hop v rising is at =
-    ap (λ b. if b then Some w else member_vid hs hop ws) (subst (λ z. is_at (hop_cmp h) z ≡ true) (same_Some h hop is) (at-itself h)) ∙ at
-member-at (h ∷ hs) (w ∷ ws) (suc i) hop v rising is at =
-    ap (λ b. if b then Some w else member_vid hs hop ws) (at-later h hop hs i rising.0 is) ∙ member-at hs ws i hop v rising.1 is at
+pub member-at : (hops : List WHop) (vs : List Vid) (i : ℕ) (hop : WHop) (v : Vid) → AreRisingHops hops → slice_get hops i ≡ Some hop → slice_get vs i ≡ Some v → member_vid hops hop vs ≡ Some v
+member-at hops vs i hop v rising is at = member_at hops vs i hop v (rising-weighed hops rising) is at

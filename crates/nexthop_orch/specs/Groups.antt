@@ -1,14 +1,14 @@
 -- The operation of a group, as far as it is made. Own.
 use Rattle.std.specs.Prelude.{◌≡◌, ◌≤◌, ℕ, Bool, true, List, [], length, drop, suc}
 use Rattle.table_schema.specs.declared.key.Key.{Key}
-use Rattle.sai_types.specs.declared.hop.Hop.{Hop}
+use Rattle.sai_types.specs.declared.weight.WHop.{WHop}
 use Rattle.sai_types.specs.declared.ids.Vid.{Vid}
 use Rattle.ref_counts.specs.declared.name.Name.{Name}
 use Rattle.ref_counts.specs.declared.name.Name.TheVariants as name
 use Rattle.orch_flight.specs.Grouping.{GroupOperation, first_group_due}
 
 -- the hops of a group's name
-abbrev pub hops_named : Name → List Hop
+abbrev pub hops_named : Name → List WHop
 hops_named (name.Group hops) = hops
 hops_named _ = []
 

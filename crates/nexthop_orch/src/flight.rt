@@ -10,7 +10,7 @@ ghost use Rattle.orch_flight.specs.Taking.{to_list};
 
 use orch_flight::vid;
 use ref_counts::{Name, Next, Registry};
-use sai_types::{Base, Body, Call, Entry, Hop, Hops, Vid};
+use sai_types::{Base, Body, Call, Entry, Hop, Hops, Vid, WHop};
 use std::alloc::Global;
 use std::marker::Model;
 use swss_types::{IfName, OutOfMemory};
@@ -90,12 +90,16 @@ impl GroupFlight {
         if self.done == 0 {
             return Ok(Next::Call(Call::Create(Body::Group)));
         }
+        let Some(hop) = hop_at(self.hops(), self.done - 1) else {
+            return Ok(Next::End);
+        };
         let Some(key) = key_at(self.neighbours.as_slice(), self.done - 1)? else {
             return Ok(Next::End);
         };
         Ok(Next::Call(Call::Create(Body::GroupMember {
             group: self.made[0],
             next_hop: vid(reg, &Name::Row(key)),
+            weight: hop.weight,
         })))
     }
 
@@ -156,8 +160,8 @@ impl GroupFlight {
         }
     }
 
-    /// The hops of the group.
-    fn hops(&self) -> &[Hop]
+    /// The hops of the group, with their weights.
+    fn hops(&self) -> &[WHop]
         ensures value { result.now ≡ self.now.hops }
         ensures rising { AreRisingHops result.now }
     {
@@ -179,6 +183,13 @@ fn keep(ids: &mut Vec<Vid>, made: Option<Vid>)
     }
 }
 
+/// One of some hops.
+fn hop_at(hops: &[WHop], at: usize) -> Option<WHop>
+    ensures { result ≡ slice_get hops.now at }
+{
+    hops.get(at).copied()
+}
+
 /// One of some keys.
 fn key_at(keys: &[Key], at: usize) -> Result<Option<Key>, OutOfMemory>
     ensures { IfOk result (λ key. key ≡ slice_get keys.now at) }
@@ -191,13 +202,14 @@ fn key_at(keys: &[Key], at: usize) -> Result<Option<Key>, OutOfMemory>
 }
 
 /// The keys of the neighbours that are these hops, but for hops on ports that are not in the plan.
-fn neighbour_keys(alloc: Global, plan: &PortPlan, hops: &[Hop]) -> Result<Vec<Key>, OutOfMemory>
+fn neighbour_keys(alloc: Global, plan: &PortPlan, hops: &[WHop]) -> Result<Vec<Key>, OutOfMemory>
     ensures { IfOk result (λ keys. keys.items ≡ neighbour_keys plan.now hops.now) }
 {
     let mut keys = Vec::with_capacity(alloc, hops.len())?;
     for hop in hops {
-        if let Some(on) = interface_on(plan, hop.on) {
-            keys.push(Key::Neigh(on, hop.ip))?;
+        let Hop { on, ip } = hop.hop;
+        if let Some(on) = interface_on(plan, on) {
+            keys.push(Key::Neigh(on, ip))?;
         }
     }
     Ok(keys)

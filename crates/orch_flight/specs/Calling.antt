@@ -9,7 +9,7 @@ use Rattle.table_schema.specs.declared.key.Key.TheVariants as key
 use Rattle.table_schema.specs.declared.row.Row.{Row}
 use Rattle.table_schema.specs.declared.row.Row.TheVariants as row
 use Rattle.table_schema.specs.declared.row.RouteRow.TheVariants as route
-use Rattle.sai_types.specs.declared.hop.Hop.{Hop}
+use Rattle.sai_types.specs.declared.weight.WHop.{WHop}
 use Rattle.sai_types.specs.declared.ids.Vid.{Vid}
 use Rattle.sai_types.specs.declared.body.Attr.{Attr}
 use Rattle.sai_types.specs.declared.body.Body.{Body}
@@ -23,7 +23,7 @@ use Rattle.sai_types.specs.declared.thing.Goal.TheVariants as goal
 use Rattle.sai_types.specs.declared.thing.Thing.{Thing}
 use Rattle.sai_types.specs.declared.thing.Thing.TheVariants as thing
 use Rattle.sai_types.specs.Alike.{IsIn}
-use Rattle.sai_types.specs.Named.{hop_cmp}
+use Rattle.sai_types.specs.Named.{whop_cmp}
 use Rattle.sai_types.specs.Names as thing_name
 use Rattle.sai_types.specs.Names.{name_of}
 use Rattle.chip_layout.specs.Bodies.{IsBody, IsChange}
@@ -52,10 +52,10 @@ members_ids [] = []
 members_ids (v ∷ vs) = vs
 
 -- the identifier of the member for this hop, where the members for these hops have these
-abbrev pub member_vid : List Hop → Hop → List Vid → Option Vid
+abbrev pub member_vid : List WHop → WHop → List Vid → Option Vid
 member_vid [] hop vs = None
 member_vid (h ∷ hs) hop [] = None
-member_vid (h ∷ hs) hop (v ∷ vs) = if is_at (hop_cmp h) hop then Some v else member_vid hs hop vs
+member_vid (h ∷ hs) hop (v ∷ vs) = if is_at (whop_cmp h) hop then Some v else member_vid hs hop vs
 
 -- the identifier of what has this name on the chip. A neighbour's row has that of its next hop
 abbrev pub vid_at : Ports → Names → thing_name.ThingName → Option Vid
@@ -142,7 +142,7 @@ IsNextOf plan names operation (next.Call c) = (change : Change) × (rest : List 
 abbrev pub pointed : Option Row → Goal → List Name
 pointed (Some (row.Route (route.Direct n))) g = name.Row (key.Intf n) ∷ []
 pointed (Some (row.Route (route.Hops hops))) (goal.Group group) = name.Group group ∷ []
-pointed (Some (row.Route (route.Hops hops))) g = map (λ h. name.Row (key.Neigh h.on h.ip)) hops
+pointed (Some (row.Route (route.Hops hops))) g = map (λ h. name.Row (key.Neigh h.0.on h.0.ip)) hops
 pointed _ g = []
 
 -- and those of what a thing refers to that belongs to the row that a key is to have, or is shared by it

@@ -4,7 +4,7 @@ use Rattle.std.specs.List.{AllByRecursion}
 use Rattle.table_schema.specs.Plan.{Ports}
 use Rattle.table_schema.specs.declared.key.Key.{Key}
 use Rattle.table_schema.specs.declared.key.Key.TheVariants as key
-use Rattle.sai_types.specs.declared.hop.Hop.{Hop}
+use Rattle.sai_types.specs.declared.weight.WHop.{WHop}
 use Rattle.sai_types.specs.declared.ids.Vid.{Vid}
 use Rattle.sai_types.specs.Named.{those}
 use Rattle.sai_types.specs.Names as thing_name
@@ -23,23 +23,23 @@ use Rattle.orch_flight.specs.Taking.{to_list}
 -- the worker and the hops; whether the group is built or taken away; where it is built, the neighbours' keys, hop by hop, and the identifiers made so far, the group's own first; and the changes that are due
 pub record GroupOperation : Type 0 where
   pub worker : ℕ
-  pub hops : List Hop
+  pub hops : List WHop
   pub builds : Bool
   pub neighbours : List Key
   pub made : List Vid
   pub due : List Change
 
 -- the keys of the neighbours that are these hops
-abbrev pub neighbour_keys : Ports → List Hop → List Key
-neighbour_keys plan hops = those (map (λ h. option_map (λ n. key.Neigh n h.ip) (interface_on plan h.on)) hops)
+abbrev pub neighbour_keys : Ports → List WHop → List Key
+neighbour_keys plan hops = those (map (λ h. option_map (λ n. key.Neigh n h.hop.ip) (interface_on plan h.hop.on)) hops)
 
 -- the group comes before its members where it is built, and behind them where it goes
-abbrev pub first_group_due : List Hop → Bool → List Change
+abbrev pub first_group_due : List WHop → Bool → List Change
 first_group_due hops true = make_all (shared_things (Group hops)) []
 first_group_due hops false = take_all (shared_going (Group hops)) []
 
 -- an operation of which nothing is made
-abbrev pub first_group : Ports → ℕ → List Hop → Bool → GroupOperation
+abbrev pub first_group : Ports → ℕ → List WHop → Bool → GroupOperation
 first_group plan worker hops builds = record { worker = worker; hops = hops; builds = builds; neighbours = if builds then neighbour_keys plan hops else []; made = []; due = first_group_due hops builds }
 
 -- ---- calls

@@ -1,15 +1,15 @@
 // What rows stand on and share.
-ghost use Rattle.std.specs.Prelude.{◌≡◌, [], ◌∷◌, IfOk};
-ghost use Rattle.switch_model.specs.Things.{base_of, hops_of, lane_of};
+ghost use Rattle.std.specs.Prelude.{◌≡◌, ◌<◌, [], ◌∷◌, IfOk};
+ghost use Rattle.switch_model.specs.Things.{base_of, hops_of, lane_of, whop_of};
 ghost use Rattle.row_layout.specs.Rows.{Bridge, from};
 ghost use Rattle.row_layout.specs.Shared.{address_uses, group_by, uses};
 ghost use Rattle.orch_flight.specs.Sharing.{AreOfShared, owners_of};
 
 use ref_counts::Name;
-use sai_types::{Base, Hop, Hops};
+use sai_types::{Base, Hop, Hops, WHop, Weight};
 use std::alloc::Global;
 use swss_types::{IfName, Ip, OutOfMemory};
-use table_schema::{Key, PortPlan, RouteRow, Row, RowHop};
+use table_schema::{Key, PortPlan, RouteRow, Row, RowHop, RowHops};
 
 /// The first lane of a port: None exactly where the plan has no such port.
 pub fn lane_of(plan: &PortPlan, port: u32) -> Option<u16>
@@ -48,7 +48,7 @@ pub fn shared(
     match (key, row) {
         (Key::Member(_, port), Row::Member(_)) => Ok(bridge_of(plan, *port)),
         (Key::Addr(on, ip, _), Row::Addr) => Ok(own_of(plan, *on, *ip)),
-        (Key::Route(_), Row::Route(RouteRow::Hops(hops))) => group_of(alloc, plan, hops.items()),
+        (Key::Route(_), Row::Route(RouteRow::Hops(hops))) => group_of(alloc, plan, hops),
         _ => Ok(None),
     }
 }
@@ -79,7 +79,7 @@ pub fn own_of(plan: &PortPlan, on: IfName, ip: Ip) -> Option<Name>
 }
 
 /// The group of several hops.
-fn group_of(alloc: Global, plan: &PortPlan, hops: &[RowHop]) -> Result<Option<Name>, OutOfMemory>
+fn group_of(alloc: Global, plan: &PortPlan, hops: &RowHops) -> Result<Option<Name>, OutOfMemory>
     ensures value { IfOk result (λ name. group_by (hops_of plan.now hops.now) ≡ owners_of name) }
     ensures kind { IfOk result (λ name. AreOfShared name) }
 {
@@ -92,17 +92,32 @@ fn group_of(alloc: Global, plan: &PortPlan, hops: &[RowHop]) -> Result<Option<Na
     }
 }
 
-/// The hops of a row as hops of the chip, where each stands on something. They are put from the last one to the first: a
-/// row's hops rise, so each is mostly less than those put so far, and one comparison tells it.
-fn hops_of(alloc: Global, plan: &PortPlan, hops: &[RowHop]) -> Result<Option<Hops>, OutOfMemory>
+/// The hops of a row as hops of the chip with their weights, where each stands on something. They are put from the last one
+/// to the first: a row's hops rise, so each is mostly less than those put so far, and one comparison tells it.
+fn hops_of(alloc: Global, plan: &PortPlan, hops: &RowHops) -> Result<Option<Hops>, OutOfMemory>
     ensures { IfOk result (λ found. found ≡ hops_of plan.now hops.now) }
 {
     let mut found = Hops::new(alloc);
-    for hop in hops.iter().rev() {
-        let Some(on) = base_of(plan, hop.on) else {
+    for hop in hops.items().iter().rev() {
+        let Some(whop) = whop_of(plan, hop) else {
             return Ok(None);
         };
-        found.put(Hop { on, ip: hop.ip })?;
+        found.put(whop)?;
     }
     Ok(Some(found))
+}
+
+/// A hop of a row as a hop of the chip with its weight: None exactly where it stands on nothing.
+fn whop_of(plan: &PortPlan, hop: &(RowHop, u8)) -> Option<WHop>
+    requires { 0 < hop.now.1 }
+    ensures { result ≡ whop_of plan.now hop.now }
+{
+    match (base_of(plan, hop.0.on), Weight::new(hop.1)) {
+        (Some(on), Some(weight)) => Some(WHop {
+            hop: Hop { on, ip: hop.0.ip },
+            weight,
+        }),
+        (None, _) => None,
+        (Some(_), None) => unreachable!(),
+    }
 }

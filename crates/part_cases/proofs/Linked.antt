@@ -154,7 +154,7 @@ unnumbered (body.VlanMember vlan bridge_port tagging) v w h = absurd cc
 unnumbered (body.Rif on) v w h = absurd cc
 unnumbered (body.NextHop rif ip) v w h = absurd cc
 unnumbered body.Group v w h = absurd cc
-unnumbered (body.GroupMember group next_hop) v w h = absurd cc
+unnumbered (body.GroupMember group next_hop weight) v w h = absurd cc
 
 keyed_alike : (b : Body Vid) (n m : ℕ) → has_id b ≡ false → entry_of n (body_renamed as_rid b) ≡ entry_of m (body_renamed as_rid b)
 keyed_alike (body.OwnAddress ip) n m h = refl
@@ -167,7 +167,7 @@ keyed_alike (body.VlanMember vlan bridge_port tagging) n m h = absurd cc
 keyed_alike (body.Rif on) n m h = absurd cc
 keyed_alike (body.NextHop rif ip) n m h = absurd cc
 keyed_alike body.Group n m h = absurd cc
-keyed_alike (body.GroupMember group next_hop) n m h = absurd cc
+keyed_alike (body.GroupMember group next_hop weight) n m h = absurd cc
 
 -- an object that is known by its key, behind which the chip used up an identifier
 pub linked-keyed : ViewsGrow → (s s' : SyncState) (objects : List (Object Vid)) (chip chip' chip'' last : ChipState) (b : Body Vid) (w : Vid) → AreLinked s objects chip → IsAnswered chip (call_renamed as_rid (call.Create b)) (tested_answer None) chip' → Calls s s.temporary chip' (call.Create b) sync.Done s' chip'' → last.objects ≡ chip''.objects → IsWholeChip last → AreLinked s' (objects ++ (record { entry = entry_at w b; body = b }) ∷ []) last

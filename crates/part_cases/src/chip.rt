@@ -32,8 +32,8 @@
 //
 // `room` and `fail` stand before the first call of a case. An OBJECT is `port LANES`, `port LANES up`, `vlan NUMBER`,
 // `bridge_port ID`, `member VLAN-ID BRIDGE-PORT-ID`, `rif port ID`, `rif vlan ID`, `own IP`, `neighbor RIF-ID IP MAC`,
-// `next_hop RIF-ID IP`, `group`, `group_member GROUP-ID NEXT-HOP-ID` or `route PREFIX TARGET`. A TARGET is `drop`,
-// `rif ID`, `next_hop ID` or `group ID`. An ENTRY is `id ID`, `own IP`, `neighbor RIF-ID IP` or `route PREFIX`. An
+// `next_hop RIF-ID IP`, `group`, `group_member GROUP-ID NEXT-HOP-ID`, with the weight 1, `group_member GROUP-ID NEXT-HOP-ID
+// WEIGHT` or `route PREFIX TARGET`. A TARGET is `drop`, `rif ID`, `next_hop ID` or `group ID`. An ENTRY is `id ID`, `own IP`, `neighbor RIF-ID IP` or `route PREFIX`. An
 // ATTRIBUTE is `speed N`, `mtu N`, `up`, `down`, `tagging WORD`, `mac MAC` or `to TARGET`. An ANSWER is `made ID`, `done`,
 // `exists`, `bad-reference`, `not-found`, `in-use`, `full`, `failed` or `no-memory`, as it stands in the chip's table.
 // What differs is printed by the name of its case.

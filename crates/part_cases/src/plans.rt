@@ -4,7 +4,8 @@
 // SEED OLD NEW WORDS    an old view of OLD objects and a new one of NEW, which mostly agree
 // ```
 //
-// The words are of these: `doubles`, where the old chip has each group twice; `half`, where it has groups that lack members;
+// The words are of these: `weights`, where next hops have weights in groups, most of them the same in both views; `doubles`,
+// where the old chip has each group twice; `half`, where it has groups that lack members;
 // `tight`, where the chip has no more room of each kind than the greater of both views takes; `break N`, where an apply
 // is broken off after N calls, and another begins from a new list, any number of times.
 //
@@ -15,9 +16,9 @@
 // - The plan is hitless exactly where there is room for what stands and for what is new.
 // - No call is refused.
 // - After each call every own address, neighbour and route on the chip is of the old view or of the new one.
-// - After each call of a hitless plan each address goes over the hops of the old view or of the new one, once over
-//   those of the new one always so, and where both views agree, Ethernet addresses included, as both.
-// - In the end the chip holds the things of the new view, and of old groups that had the same hops none but the first;
+// - After each call of a hitless plan each address goes over the hops of the old view or of the new one, with
+//   their weights, once over those of the new one always so, and where both views agree, Ethernet addresses included, as both.
+// - In the end the chip holds the things of the new view, and of old groups of the same hops and weights none but the first;
 //   a plan from there has no call.
 //
 // A case in which something else is found is printed by its line, with what was found.

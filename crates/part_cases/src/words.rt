@@ -3,7 +3,7 @@ ghost use Rattle.std.specs.Prelude.{IfOk};
 ghost use Rattle.machine_laws.specs.Reading.{IsOnSwitch};
 
 use anyhow::{Context, Result, bail};
-use sai_types::{Kind, Rid};
+use sai_types::{Kind, Rid, Weight};
 use std::alloc::Global;
 use swss_types::{Ip, Lanes, Mac, Prefix, Tagging, Text};
 use table_schema::{Fields, Key, has_colon, read_key};
@@ -21,6 +21,12 @@ pub fn short(word: &str) -> Result<u32> {
 /// An identifier.
 pub fn id(word: &str) -> Result<Rid> {
     Ok(Rid(number(word)?))
+}
+
+/// A weight.
+pub fn weight(word: &str) -> Result<Weight> {
+    let number = word.parse::<u8>().context("a number")?;
+    Weight::new(number).context("a weight")
 }
 
 /// An address.

@@ -5,7 +5,7 @@ use Rattle.swss_types.specs.Address.{IsProperPrefix}
 use Rattle.swss_types.specs.declared.vrf.Packet.{Packet}
 use Rattle.swss_types.specs.declared.address.Prefix.{Prefix}
 use Rattle.sai_types.specs.declared.ids.Rid.{Rid}
-use Rattle.sai_types.specs.declared.hop.Hop.{Hop}
+use Rattle.sai_types.specs.declared.weight.WHop.{WHop}
 use Rattle.sai_types.specs.declared.thing.Goal.{Goal}
 use Rattle.sai_types.specs.declared.thing.Goal.TheVariants as goal
 use Rattle.sai_types.specs.declared.thing.Thing.{Thing}
@@ -33,7 +33,7 @@ no_port _ fw port = port
 
 -- ---- the same changes of things with real hops
 
-module _ (hops_of : List Hop → List Hop) where
+module _ (hops_of : List WHop → List WHop) where
   abbrev real : Thing → Thing
   real = real_route hops_of
 
@@ -41,13 +41,13 @@ module _ (hops_of : List Hop → List Hop) where
   real_name (thing.Route p g) = refl
   real_name _ = refl
 
-  goal_fixed : (p : Prefix) (g : Goal) (new : List Thing) → ((hops : List Hop) → IsIn (thing.Group hops) new → hops_of hops ≡ hops) → ((tag : List Hop) → IsIn (thing.Route p (goal.Group tag)) new → IsIn (thing.Group tag) new) → IsIn (thing.Route p g) new → real_goal hops_of g ≡ g
+  goal_fixed : (p : Prefix) (g : Goal) (new : List Thing) → ((hops : List WHop) → IsIn (thing.Group hops) new → hops_of hops ≡ hops) → ((tag : List WHop) → IsIn (thing.Route p (goal.Group tag)) new → IsIn (thing.Group tag) new) → IsIn (thing.Route p g) new → real_goal hops_of g ≡ g
   goal_fixed p goal.Drop new same there i = refl
   goal_fixed p (goal.Direct on) new same there i = refl
   goal_fixed p (goal.Via hop) new same there i = refl
   goal_fixed p (goal.Group tag) new same there i = ap goal.Group (same tag (there tag i))
 
-module _ {hops_of : List Hop → List Hop} {old new : List Thing} {plan : List PlanChange} (q : IsTaggedPlan hops_of old new plan) where
+module _ {hops_of : List WHop → List WHop} {old new : List Thing} {plan : List PlanChange} (q : IsTaggedPlan hops_of old new plan) where
   abbrev shown : List Thing
   shown = map (real hops_of) old
 

@@ -3,7 +3,7 @@ use Rattle.std.proofs.Common.{◌≡◌, inl, inr, ◌⊎◌, ℕ, zero, suc, �
 use Rattle.std.proofs.lemmas.Bool.{and_from, and_parts, eq-eqb, false≢true, ltb-true}
 use Rattle.std.proofs.lemmas.Option.{same_Some}
 use Rattle.sai_types.specs.declared.ids.Rid.{Rid}
-use Rattle.sai_types.specs.declared.hop.Hop.{Hop}
+use Rattle.sai_types.specs.declared.weight.WHop.{WHop}
 use Rattle.sai_types.specs.declared.body.Body.{Body}
 use Rattle.sai_types.specs.declared.body.Body.TheVariants as body
 use Rattle.sai_types.specs.declared.body.Entry.{Entry}
@@ -18,7 +18,7 @@ use Rattle.swss_types.proofs.Proper.{mapped}
 use Rattle.sai_types.specs.declared.thing.Thing.{Thing}
 use Rattle.sai_types.specs.declared.thing.Thing.TheVariants as thing
 use Rattle.sai_types.specs.Alike.{IsIn}
-use Rattle.sai_types.specs.Named.{both, goal_by, hops_at, named, next_hop_at, thing_by, thing_of}
+use Rattle.sai_types.specs.Named.{both, goal_by, hops_at, named, next_hop_at, thing_by, thing_of, whop_at}
 use Rattle.sai_types.specs.Names as name
 use Rattle.sai_types.specs.Names.{ThingName, name_of}
 use Rattle.sai_types.specs.Objects.{Objects, body_at}
@@ -51,10 +51,10 @@ is_grouped (e, body.Port l s m u) g h = absurd cc
 is_grouped (e, _) g h = absurd cc
 
 module _ {made : ℕ} {objects : Objects} (chip : IsListedChip made objects) (new : List Thing) (view : IsView new) where
-  abbrev tag : Rid → List Hop
+  abbrev tag : Rid → List WHop
   tag = tag_of objects new
 
-  abbrev hops : Rid → List Hop
+  abbrev hops : Rid → List WHop
   hops = shown_hops objects
 
   -- ---- the two names of an object
@@ -63,24 +63,25 @@ module _ {made : ℕ} {objects : Objects} (chip : IsListedChip made objects) (ne
   OfGroup e b u w = (g : Rid) × (e ≡ entry.Oid g) × (b ≡ body.Group) × (u ≡ thing.Group (hops g)) × (w ≡ thing.Group (tag g))
 
   abbrev OfMember : Body Rid → Thing → Thing → Type 0
-  OfMember b u w = (g : Rid) × (n : Rid) × (hop : Hop) × (b ≡ body.GroupMember g n) × (u ≡ thing.GroupMember (hops g) hop) × (w ≡ thing.GroupMember (tag g) hop)
+  OfMember b u w = (g : Rid) × (n : Rid) × (hop : WHop) × (b ≡ body.GroupMember g n hop.weight) × (u ≡ thing.GroupMember (hops g) hop) × (w ≡ thing.GroupMember (tag g) hop)
 
   abbrev AreNames : Entry Rid → Body Rid → Thing → Thing → Type 0
   AreNames e b u w = (name_of u ≡ name_of w) ⊎ (OfGroup e b u w ⊎ OfMember b u w)
 
-  these_hops : (g : Rid) (hs : List Hop) → hops_at objects g ≡ Some hs → hs ≡ hops g
+  these_hops : (g : Rid) (hs : List WHop) → hops_at objects g ≡ Some hs → hs ≡ hops g
   these_hops g hs e = sym (ap hops_or_none e)
 
   pub names : (e : Entry Rid) (b : Body Rid) (u w : Thing) → thing_of objects (e, b) ≡ Some u → thing_by (tagged tag) objects (e, b) ≡ Some w → AreNames e b u w
   names (entry.Oid g) body.Group u w x y =
       let m = mapped thing.Group (hops_at objects g) u x in
       inr (inl (g, refl, refl, sym m.2 ∙ ap thing.Group (these_hops g m.0 m.1), sym (same_Some (thing.Group (tag g)) w y)))
-  names e (body.GroupMember g n) u w x y =
-      let m = both_mapped thing.GroupMember (hops_at objects g) (next_hop_at objects n) u x in
-      let k = both_mapped thing.GroupMember (Some (tag g)) (next_hop_at objects n) w y in
+  names e (body.GroupMember g n weight) u w x y =
+      let m = both_mapped thing.GroupMember (hops_at objects g) (whop_at objects n weight) u x in
+      let k = both_mapped thing.GroupMember (Some (tag g)) (whop_at objects n weight) w y in
+      let is = mapped (λ h. record { hop = h; weight = weight }) (next_hop_at objects n) m.1 m.3 in
       let tags : k.0 ≡ tag g = sym (same_Some (tag g) k.0 k.2) in
       let one : k.1 ≡ m.1 = same_Some k.1 m.1 (sym k.3 ∙ m.3) in
-      inr (inr (g, n, m.1, refl, sym m.4 ∙ ap (λ h. thing.GroupMember h m.1) (these_hops g m.0 m.2), sym k.4 ∙ ap₂ (λ a c. thing.GroupMember a c) tags one))
+      inr (inr (g, n, m.1, ap (λ (v : WHop). body.GroupMember g n v.weight) is.2, sym m.4 ∙ ap (λ h. thing.GroupMember h m.1) (these_hops g m.0 m.2), sym k.4 ∙ ap₂ (λ a c. thing.GroupMember a c) tags one))
   names e (body.Route p t) u w x y =
       let m = mapped (thing.Route p) (goal_by (hops_at objects) objects t) u x in
       let k = mapped (thing.Route p) (goal_by (tagged tag) objects t) w y in
@@ -93,7 +94,7 @@ module _ {made : ℕ} {objects : Objects} (chip : IsListedChip made objects) (ne
 
   -- ---- groups that stay
 
-  pub new_group : (g : Rid) (hop : Hop) → IsIn (thing.GroupMember (hops g) hop) new → IsIn (thing.Group (hops g)) new
+  pub new_group : (g : Rid) (hop : WHop) → IsIn (thing.GroupMember (hops g) hop) new → IsIn (thing.Group (hops g)) new
   new_group g hop i = let k = view.within.refers (thing.GroupMember (hops g) hop) (name.Group (hops g)) i (inl refl) in subst (λ z. IsIn z new) (is-group k.0 (hops g) k.2) k.1
 
   pub stays_if : (g : Rid) → IsIn g (chip_groups objects) → IsIn (thing.Group (hops g)) new → is_double objects g ≡ false → group_stays objects new g ≡ true
@@ -111,13 +112,13 @@ module _ {made : ℕ} {objects : Objects} (chip : IsListedChip made objects) (ne
       by true e = refl
       by false e = absurd (apart (tag_is g (stays_if g i wanted e)))
 
-  member_parts : (g h n m : Rid) → body.GroupMember g n ≡ body.GroupMember h m → g ≡ h
-  member_parts g h n m e = cc
+  member_parts : (g h n m : Rid) (x y : ℕ) → body.GroupMember g n x ≡ body.GroupMember h m y → g ≡ h
+  member_parts g h n m x y e = cc
 
-  pub member_group : (e : Entry Rid) (g n : Rid) (hop : Hop) → body_at objects e ≡ Some (body.GroupMember g n) → thing_by (tagged tag) objects (e, body.GroupMember g n) ≡ Some (thing.GroupMember (tag g) hop) → IsIn g (chip_groups objects)
-  member_group e g n hop found is =
-      let of = body-seen tag made objects chip.whole e (body.GroupMember g n) (thing.GroupMember (tag g) hop) found is in
-      let same : of.first ≡ g = sym (member_parts g of.first n of.second of.body_is) in
+  pub member_group : (e : Entry Rid) (g n : Rid) (weight : ℕ) (hop : WHop) → body_at objects e ≡ Some (body.GroupMember g n weight) → thing_by (tagged tag) objects (e, body.GroupMember g n weight) ≡ Some (thing.GroupMember (tag g) hop) → IsIn g (chip_groups objects)
+  member_group e g n weight hop found is =
+      let of = body-seen tag made objects chip.whole e (body.GroupMember g n weight) (thing.GroupMember (tag g) hop) found is in
+      let same : of.first ≡ g = sym (member_parts g of.first n of.second weight hop.weight of.body_is) in
       (group-seen chip new g (tag g) (group-there chip new (tag g) g (subst (Has (old_layout objects new) (name.Group (tag g))) same of.first_at))).1
 
   -- ---- what the new view has no old thing for is no name of it, or that of a double
@@ -136,7 +137,7 @@ module _ {made : ℕ} {objects : Objects} (chip : IsListedChip made objects) (ne
           | inr y ↦
               let g = y.0 in
               let t_is = is-member t (hops g) y.2 (same ∙ ap name_of y.4) in
-              let there = member_group e g y.1 y.2 (found ∙ ap Some y.3) (ap (λ z. thing_by (tagged tag) objects (e, z)) (sym y.3) ∙ is ∙ ap Some y.5) in
+              let there = member_group e g y.1 (y.2).weight y.2 (found ∙ ap Some y.3) (ap (λ z. thing_by (tagged tag) objects (e, z)) (sym y.3) ∙ is ∙ ap Some y.5) in
               let double = doubled g there (new_group g y.2 (subst (λ z. IsIn z new) t_is i)) (λ e. none t i (ap name_of t_is ∙ ap (λ h. name.GroupMember h y.2) (sym e) ∙ sym (ap name_of y.5))) in
               subst (λ z. IsDouble objects e z) (sym y.3) double
         ]
@@ -172,7 +173,7 @@ module _ {made : ℕ} {objects : Objects} (chip : IsListedChip made objects) (ne
       let stays = stays_if h.0 h.1 (subst (λ z. IsIn (thing.Group z) new) (sym h.3) wanted) h.2 in
       subst (λ z. IsIn (thing.Group z) (old_things objects new)) (tag_is h.0 stays ∙ h.3) (object-seen tag objects made chip.whole (entry.Oid h.0) body.Group (thing.Group (tag h.0)) (group_found h.0 h.1) refl)
 
-  pub member_old : (g : Rid) (hop : Hop) → IsIn g (chip_groups objects) → IsIn (thing.GroupMember (hops g) hop) new → IsIn (thing.GroupMember (hops g) hop) (old_things objects new)
+  pub member_old : (g : Rid) (hop : WHop) → IsIn g (chip_groups objects) → IsIn (thing.GroupMember (hops g) hop) new → IsIn (thing.GroupMember (hops g) hop) (old_things objects new)
   member_old g hop i wanted =
       let group = new_group g hop wanted in
       (old-tagged chip new).have (hops g) hop (group_old g i group) (subst (IsIn hop) (sym (hops-same chip new (hops g) (view.grouped.rising (hops g) group))) (view.grouped.only (hops g) hop wanted))
@@ -193,7 +194,7 @@ module _ {made : ℕ} {objects : Objects} (chip : IsListedChip made objects) (ne
               (t, subst (λ z. IsIn z (old_things objects new)) (sym t_is) (group_old x.0 there (subst (λ z. IsIn z new) t_is j)), refl)
           | inr y ↦
               let t_is = is-member t (hops y.0) y.2 (sym same ∙ ap name_of y.4) in
-              let there = member_group e y.0 y.1 y.2 (found ∙ ap Some y.3) (ap (λ z. thing_by (tagged tag) objects (e, z)) (sym y.3) ∙ s.1 ∙ ap Some y.5) in
+              let there = member_group e y.0 y.1 (y.2).weight y.2 (found ∙ ap Some y.3) (ap (λ z. thing_by (tagged tag) objects (e, z)) (sym y.3) ∙ s.1 ∙ ap Some y.5) in
               (t, subst (λ z. IsIn z (old_things objects new)) (sym t_is) (member_old y.0 y.2 there (subst (λ z. IsIn z new) t_is j)), refl)
         ]
       ]
@@ -241,14 +242,14 @@ module _ {made : ℕ} {objects : Objects} (chip : IsListedChip made objects) (ne
       let t_is = is-group t (tag g) (sym same ∙ ap name_of u_is) in
       let real = real_tag g (subst (λ z. IsIn z new) t_is i) in
       (thing.Group (hops g), ap (option_map thing.Group) (hops_of_group g found), ap name.Group real ∙ sym (ap name_of u_is) ∙ same)
-  shown_as e (body.GroupMember g n) u t found is i same =
-      let k = both_mapped thing.GroupMember (Some (tag g)) (next_hop_at objects n) u is in
+  shown_as e (body.GroupMember g n weight) u t found is i same =
+      let k = both_mapped thing.GroupMember (Some (tag g)) (whop_at objects n weight) u is in
       let tags : k.0 ≡ tag g = sym (same_Some (tag g) k.0 k.2) in
       let u_is : u ≡ thing.GroupMember (tag g) k.1 = sym k.4 ∙ ap (λ h. thing.GroupMember h k.1) tags in
       let t_is = is-member t (tag g) k.1 (sym same ∙ ap name_of u_is) in
       let group = view.within.refers (thing.GroupMember (tag g) k.1) (name.Group (tag g)) (subst (λ z. IsIn z new) t_is i) (inl refl) in
       let real = real_tag g (subst (λ z. IsIn z new) (is-group group.0 (tag g) group.2) group.1) in
-      let there = member_group e g n k.1 found (is ∙ ap Some u_is) in
+      let there = member_group e g n weight k.1 found (is ∙ ap Some u_is) in
       (thing.GroupMember (hops g) k.1, ap₂ (both thing.GroupMember) (hops_of_group g (group_found g there)) k.3, ap (λ h. name.GroupMember h k.1) real ∙ sym (ap name_of u_is) ∙ same)
   shown_as e (body.Route p r) u t found is i same =
       let k = mapped (thing.Route p) (goal_by (tagged tag) objects r) u is in

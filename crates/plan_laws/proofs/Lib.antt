@@ -1,4 +1,5 @@
 pub mod Allowed
+pub mod Apart
 pub mod Applied
 pub mod Calling
 pub mod Chip

@@ -3,6 +3,7 @@ use Rattle.std.proofs.Common.{◌≡◌, inl, inr, ◌⊎◌, ◌++◌, List, []
 use Rattle.swss_types.specs.declared.vrf.Packet.{Packet}
 use Rattle.swss_types.specs.declared.address.Mac.{Mac}
 use Rattle.sai_types.specs.declared.hop.Hop.{Hop}
+use Rattle.sai_types.specs.declared.weight.WHop.{WHop}
 use Rattle.sai_types.specs.declared.thing.Thing.{Thing}
 use Rattle.sai_types.specs.declared.thing.Thing.TheVariants as thing
 use Rattle.sai_types.specs.Alike.{IsIn}
@@ -77,29 +78,29 @@ module _ {old new : List Thing} (old_named : HaveOwnNames old) (new_named : Have
 -- ---- forwarding
 
 module _ (x y n : Hop → Option Mac) (each : (h : Hop) → (n h ≡ x h) ⊎ (n h ≡ y h)) where
-  abbrev with : (Hop → Option Mac) → List Hop → List (Hop × Option Mac)
-  with m hs = map (λ h. (h, m h)) hs
+  abbrev with : (Hop → Option Mac) → List WHop → List (WHop × Option Mac)
+  with m hs = map (λ h. (h, m h.hop)) hs
 
-  same_head : (h k : Hop) (a b : Option Mac) (s t : List (Hop × Option Mac)) → (h, a) ∷ s ≡ (k, b) ∷ t → (h ≡ k) × (a ≡ b) × (s ≡ t)
+  same_head : (h k : WHop) (a b : Option Mac) (s t : List (WHop × Option Mac)) → (h, a) ∷ s ≡ (k, b) ∷ t → (h ≡ k) × (a ≡ b) × (s ≡ t)
   same_head h k a b s t e =
-      let made : Hop → Option Mac → (Hop × Option Mac) = λ p q. (p, q) in
+      let made : WHop → Option Mac → (WHop × Option Mac) = λ p q. (p, q) in
       let heads : made h a ≡ made k b = cc in
-      (ap (λ (p : Hop × Option Mac). p.0) heads, ap (λ (p : Hop × Option Mac). p.1) heads, cc)
+      (ap (λ (p : WHop × Option Mac). p.0) heads, ap (λ (p : WHop × Option Mac). p.1) heads, cc)
 
-  all_same : (hs ks : List Hop) → with x hs ≡ with y ks → (hs ≡ ks) × (with n hs ≡ with x hs)
+  all_same : (hs ks : List WHop) → with x hs ≡ with y ks → (hs ≡ ks) × (with n hs ≡ with x hs)
   all_same [] [] e = (refl, refl)
   all_same [] (k ∷ ks) e = absurd cc
   all_same (h ∷ hs) [] e = absurd cc
   all_same (h ∷ hs) (k ∷ ks) e =
-      let head = same_head h k (x h) (y k) (with x hs) (with y ks) e in
+      let head = same_head h k (x h.hop) (y k.hop) (with x hs) (with y ks) e in
       let rest = all_same hs ks head.2 in
-      let made : Hop → Option Mac → (Hop × Option Mac) = λ a b. (a, b) in
-      let macs : n h ≡ x h = elim (each h) [ inl is ↦ is | inr is ↦ is ∙ ap y head.0 ∙ sym head.1 ] in
+      let made : WHop → Option Mac → (WHop × Option Mac) = λ a b. (a, b) in
+      let macs : n h.hop ≡ x h.hop = elim (each h.hop) [ inl is ↦ is | inr is ↦ is ∙ ap (λ (z : WHop). y z.hop) head.0 ∙ sym head.1 ] in
       (ap₂ (λ a b. a ∷ b) head.0 rest.0, ap₂ (λ a b. a ∷ b) (ap (made h) macs) rest.1)
 
 -- what the old and the new things forward equally is forwarded so, where it is decided as by either
 module _ (old new now : List Thing) (each : (h : Hop) → (hop_mac now h ≡ hop_mac old h) ⊎ (hop_mac now h ≡ hop_mac new h)) where
-  hops_of : (hs ks : List (Hop × Option Mac)) → to.Through hs ≡ to.Through ks → hs ≡ ks
+  hops_of : (hs ks : List (WHop × Option Mac)) → to.Through hs ≡ to.Through ks → hs ≡ ks
   hops_of hs ks e = cc
 
   forwarded : (d e : Decision) → forwarding_of old d ≡ forwarding_of new e → (forwarding_of now d ≡ forwarding_of old d) × (forwarding_of now e ≡ forwarding_of old d)
@@ -107,7 +108,7 @@ module _ (old new now : List Thing) (each : (h : Hop) → (hop_mac now h ≡ hop
   forwarded to.Drop to.Drop h = (refl, refl)
   forwarded (to.Direct x) (to.Direct y) h = (refl, sym h)
   forwarded (to.Via hs) (to.Via ks) h =
-      let same = all_same (hop_mac old) (hop_mac new) (hop_mac now) each hs ks (hops_of (map (λ x. (x, hop_mac old x)) hs) (map (λ x. (x, hop_mac new x)) ks) h) in
+      let same = all_same (hop_mac old) (hop_mac new) (hop_mac now) each hs ks (hops_of (map (λ x. (x, hop_mac old x.hop)) hs) (map (λ x. (x, hop_mac new x.hop)) ks) h) in
       (ap to.Through same.1, ap (λ l. forwarding_of now (to.Via l)) (sym same.0) ∙ ap to.Through same.1)
   forwarded _ _ h = absurd cc
 

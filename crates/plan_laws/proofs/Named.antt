@@ -4,6 +4,8 @@ use Rattle.std.proofs.lemmas.Bool.{and_from, and_parts, eq-eqb, eqb-true, false�
 use Rattle.swss_types.specs.contracts.address.IpEq.TheImpl.Laws as equal_ip
 use Rattle.swss_types.specs.contracts.address.PrefixEq.TheImpl.Laws as equal_prefix
 use Rattle.sai_types.specs.declared.hop.Hop.{Hop}
+use Rattle.sai_types.specs.declared.weight.WHop.{WHop}
+use Rattle.sai_types.specs.contracts.weight.WHopEq.TheImpl.Laws as equal_whop
 use Rattle.sai_types.specs.contracts.hop.BaseEq.TheImpl.Laws as equal_base
 use Rattle.sai_types.specs.contracts.hop.BasePartialEq.TheImpl as base_eq
 use Rattle.sai_types.specs.contracts.hop.HopEq.TheImpl.Laws as equal_hop
@@ -12,19 +14,19 @@ use Rattle.sai_types.specs.Names as name
 use Rattle.sai_types.specs.Names.{ThingName}
 use Rattle.sai_types.specs.Refusal.{same_ip, same_prefix}
 use Rattle.sai_types.proofs.Exact.{ip-exact, prefix-exact}
-use Rattle.sai_types.proofs.Rising.{base-exact, hop-same}
+use Rattle.sai_types.proofs.Rising.{base-exact, hop-same, whop-same}
 use Rattle.sai_types.proofs.Things.{bridge_ports, group_members, groups, neighbors, next_hops, owns, ports, rifs, same_route_prefix, vlan_members, vlans}
-use Rattle.plan_laws.specs.Old.{same_hops}
+use Rattle.plan_laws.specs.Old.{same_hops, same_whop}
 
-pub same_hops_exact : (xs ys : List Hop) → same_hops xs ys ≡ true → xs ≡ ys
+pub same_hops_exact : (xs ys : List WHop) → same_hops xs ys ≡ true → xs ≡ ys
 same_hops_exact [] [] h = refl
-same_hops_exact (x ∷ xs) (y ∷ ys) h = let parts = and_parts (same_hop x y) (same_hops xs ys) h in ap₂ (λ a b. a ∷ b) (hop-same x y parts.0) (same_hops_exact xs ys parts.1)
+same_hops_exact (x ∷ xs) (y ∷ ys) h = let parts = and_parts (same_whop x y) (same_hops xs ys) h in ap₂ (λ a b. a ∷ b) (whop-same x y parts.0) (same_hops_exact xs ys parts.1)
 same_hops_exact [] (y ∷ ys) h = absurd (false≢true h)
 same_hops_exact (x ∷ xs) [] h = absurd (false≢true h)
 
-pub hops_refl : (xs : List Hop) → same_hops xs xs ≡ true
+pub hops_refl : (xs : List WHop) → same_hops xs xs ≡ true
 hops_refl [] = refl
-hops_refl (x ∷ xs) = and_from (same_hop x x) (same_hops xs xs) (equal_hop.laws-law.refl x) (hops_refl xs)
+hops_refl (x ∷ xs) = and_from (same_whop x x) (same_hops xs xs) (equal_whop.laws-law.refl x) (hops_refl xs)
 
 abbrev IsToldApart : {X : Type 0} → X → X → Type 0
 IsToldApart x y = (x ≡ y) ⊎ (x ≡ y → ⊥)
@@ -51,7 +53,10 @@ numbers m n = told_apart_by_test (λ a b. a == b) (λ a b h. eqb-true a b h) (λ
 hop : (x y : Hop) → IsToldApart x y
 hop = told_apart_by_test same_hop hop-same equal_hop.laws-law.refl
 
-hops : (xs ys : List Hop) → IsToldApart xs ys
+whop : (x y : WHop) → IsToldApart x y
+whop = told_apart_by_test same_whop whop-same equal_whop.laws-law.refl
+
+hops : (xs ys : List WHop) → IsToldApart xs ys
 hops = told_apart_by_test same_hops same_hops_exact hops_refl
 
 pub same-or : (k m : ThingName) → (k ≡ m) ⊎ (k ≡ m → ⊥)
@@ -64,6 +69,6 @@ same-or (name.Own a) (name.Own b) = under name.Own owns a b (told_apart_by_test 
 same-or (name.Neighbor a) (name.Neighbor b) = under name.Neighbor neighbors a b (hop a b)
 same-or (name.NextHop a) (name.NextHop b) = under name.NextHop next_hops a b (hop a b)
 same-or (name.Group a) (name.Group b) = under name.Group groups a b (hops a b)
-same-or (name.GroupMember a x) (name.GroupMember b y) = pairs_told_apart name.GroupMember group_members a b x y (hops a b) (hop x y)
+same-or (name.GroupMember a x) (name.GroupMember b y) = pairs_told_apart name.GroupMember group_members a b x y (hops a b) (whop x y)
 same-or (name.Route a) (name.Route b) = under name.Route same_route_prefix a b (told_apart_by_test same_prefix prefix-exact equal_prefix.laws-law.refl a b)
 same-or _ _ = inr (λ e. absurd cc)

@@ -2,7 +2,7 @@
 use Rattle.std.proofs.Common.{◌≡◌, inl, inr, ◌⊎◌, ◌≤◌, ℕ, ◌++◌, List, [], Some, refl, sym, ap, ◌∙◌, subst, arith}
 use Rattle.std.proofs.lemmas.List.{append-nil}
 use Rattle.sai_types.specs.declared.ids.Rid.{Rid}
-use Rattle.sai_types.specs.declared.hop.Hop.{Hop}
+use Rattle.sai_types.specs.declared.weight.WHop.{WHop}
 use Rattle.sai_types.specs.declared.body.Call.{Call}
 use Rattle.swss_types.specs.declared.address.Prefix.{Prefix}
 use Rattle.sai_types.specs.declared.thing.Goal.{Goal}
@@ -37,7 +37,7 @@ module _ {made : ℕ} {objects : Objects} (chip : IsListedChip made objects) (ne
   abbrev old : List Thing
   old = old_things objects new
 
-  abbrev hops : List Hop → List Hop
+  abbrev hops : List WHop → List WHop
   hops = hops_by_tag chip new
 
   module _ (done due : List PlanChange) (cut : removes ≡ done ++ due) {layout : Layout Rid} {count : ℕ} {now : Objects} (at : IsMidMoment old done layout count now) where
@@ -49,7 +49,7 @@ module _ {made : ℕ} {objects : Objects} (chip : IsListedChip made objects) (ne
           | inr c ↦ elim (outcome-new is_plan c.0 t (done-in is_plan done due cut c.0 c.1) c.2) [ ]
         ]
 
-    member_there : (p : Prefix) (tag : List Hop) (hop : Hop) → stands_after_all done (λ u. IsIn u old) (thing.Route p (goal.Group tag)) → IsIn hop (hops tag) → stands_after_all done (λ u. IsIn u old) (thing.GroupMember tag hop)
+    member_there : (p : Prefix) (tag : List WHop) (hop : WHop) → stands_after_all done (λ u. IsIn u old) (thing.Route p (goal.Group tag)) → IsIn hop (hops tag) → stands_after_all done (λ u. IsIn u old) (thing.GroupMember tag hop)
     member_there p tag hop h i =
         let route = stood (thing.Route p (goal.Group tag)) h in
         elim (old-stands is_plan done due cut (thing.GroupMember tag hop) ((old-tagged chip new).have tag hop ((old-tagged chip new).there p tag route.0) i)) [
@@ -92,7 +92,7 @@ module _ {made : ℕ} {objects : Objects} (chip : IsListedChip made objects) (ne
 
 -- ---- while all is made
 
-abbrev same_hops : List Hop → List Hop
+abbrev same_hops : List WHop → List WHop
 same_hops hops = hops
 
 real_same : (t : Thing) → real_route same_hops t ≡ t
@@ -114,7 +114,7 @@ module _ {new : List Thing} {makes : List PlanChange} (is_plan : IsViewPlan cold
         | inr c ↦ (c.0, c.1, c.2, outcome-new is_plan c.0 t (done-in is_plan done due cut c.0 c.1) c.2)
       ]
 
-  group_of : (p : Prefix) (hops : List Hop) → IsIn (thing.Route p (goal.Group hops)) new → IsIn (thing.Group hops) new
+  group_of : (p : Prefix) (hops : List WHop) → IsIn (thing.Route p (goal.Group hops)) new → IsIn (thing.Group hops) new
   group_of p hops i = let u = within.refers (thing.Route p (goal.Group hops)) (name.Group hops) i (inl refl) in subst (λ z. IsIn z new) (is-group u.0 hops u.2) u.1
 
   late : (c : PlanChange) (p : Prefix) (g : Goal) → outcome c ≡ Some (thing.Route p g) → 10 ≤ cold_rank c
@@ -122,7 +122,7 @@ module _ {new : List Thing} {makes : List PlanChange} (is_plan : IsViewPlan cold
   late (Set t) p g e = omega arith
   late (Remove k) p g e = absurd cc
 
-  member_made : (p : Prefix) (hops : List Hop) (hop : Hop) → stands (thing.Route p (goal.Group hops)) → IsIn hop hops → stands (thing.GroupMember hops hop)
+  member_made : (p : Prefix) (hops : List WHop) (hop : WHop) → stands (thing.Route p (goal.Group hops)) → IsIn hop hops → stands (thing.GroupMember hops hop)
   member_made p hops hop h i =
       let c = by_change (thing.Route p (goal.Group hops)) h in
       elim (new-stands is_plan done due cut (thing.GroupMember hops hop) (grouped.have hops hop (group_of p hops c.3) i)) [

@@ -1,9 +1,8 @@
 -- by what a chip's packets go, where its groups have tags
 use Rattle.std.proofs.Common.{◌≡◌, ℕ, List, Option, None, Some, option_map, refl, sym, ap, ◌∙◌, subst}
-use Rattle.std.specs.List.Sorted.{IsStrictlySortedBy}
 use Rattle.swss_types.specs.declared.address.Prefix.{Prefix}
 use Rattle.sai_types.specs.declared.ids.Rid.{Rid}
-use Rattle.sai_types.specs.declared.hop.Hop.{Hop}
+use Rattle.sai_types.specs.declared.weight.WHop.{WHop}
 use Rattle.sai_types.specs.declared.body.Body.{Body}
 use Rattle.sai_types.specs.declared.body.Entry.{Entry}
 use Rattle.sai_types.specs.declared.body.Entry.TheVariants as entry
@@ -14,7 +13,8 @@ use Rattle.sai_types.specs.declared.thing.Thing.TheVariants as thing
 use Rattle.sai_types.specs.After.{entry_of}
 use Rattle.sai_types.specs.Alike.{IsIn}
 use Rattle.sai_types.specs.Made.{IsWhole}
-use Rattle.sai_types.specs.Named.{hop_cmp, hops_at, named, thing_of, those}
+use Rattle.sai_types.specs.Hop.{AreRisingHops}
+use Rattle.sai_types.specs.Named.{hops_at, named, thing_of, those}
 use Rattle.sai_types.specs.Objects.{Objects}
 use Rattle.chip_layout.specs.Layout.{Has, IsLaidOut, Layout}
 use Rattle.sai_types.specs.Names as name
@@ -25,31 +25,31 @@ use Rattle.plan_laws.specs.Steady.{IsForwarding}
 use Rattle.chip_layout.specs.Bodies.{IsAt, IsBody, body_with, first_name}
 use Rattle.sai_types.proofs.Found.{same-symm}
 use Rattle.sai_types.proofs.Listed.{found-in, in-found, object-of_thing}
-use Rattle.sai_types.proofs.Rising.{hop_exact, hop_total, same-rising}
 use Rattle.sai_types.proofs.Things.{both_mapped}
+use Rattle.sai_types.proofs.Weights.{same-hops}
 
 -- a goal by the hops that its tag is for
-abbrev pub real_goal : (List Hop → List Hop) → Goal → Goal
+abbrev pub real_goal : (List WHop → List WHop) → Goal → Goal
 real_goal hops_of (goal.Group tag) = goal.Group (hops_of tag)
 real_goal hops_of g = g
 
 -- a route with the hops that its tag is for
-abbrev pub real_route : (List Hop → List Hop) → Thing → Thing
+abbrev pub real_route : (List WHop → List WHop) → Thing → Thing
 real_route hops_of (thing.Route p g) = thing.Route p (real_goal hops_of g)
 real_route hops_of t = t
 
 -- each group that a route points at has members for the hops that its tag is for
-pub record AreTargets (hops_of : List Hop → List Hop) (layout : Layout Rid) : Type 0 where
-  pub rising : (i : Rid) (p : Prefix) (tag : List Hop) → layout i (thing.Route p (goal.Group tag)) → IsStrictlySortedBy hop_cmp (hops_of tag)
-  pub have : (i : Rid) (p : Prefix) (tag : List Hop) (hop : Hop) → layout i (thing.Route p (goal.Group tag)) → IsIn hop (hops_of tag) → (j : Rid) × layout j (thing.GroupMember tag hop)
-  pub only : (j : Rid) (tag : List Hop) (hop : Hop) → layout j (thing.GroupMember tag hop) → IsIn hop (hops_of tag)
+pub record AreTargets (hops_of : List WHop → List WHop) (layout : Layout Rid) : Type 0 where
+  pub rising : (i : Rid) (p : Prefix) (tag : List WHop) → layout i (thing.Route p (goal.Group tag)) → AreRisingHops (hops_of tag)
+  pub have : (i : Rid) (p : Prefix) (tag : List WHop) (hop : WHop) → layout i (thing.Route p (goal.Group tag)) → IsIn hop (hops_of tag) → (j : Rid) × layout j (thing.GroupMember tag hop)
+  pub only : (j : Rid) (tag : List WHop) (hop : WHop) → layout j (thing.GroupMember tag hop) → IsIn hop (hops_of tag)
 
-module _ (layout : Layout Rid) (objects : Objects) (laid : IsLaidOut layout objects) (made : ℕ) (whole : IsWhole made objects) (hops_of : List Hop → List Hop) (targets : AreTargets hops_of layout) where
-  group_hops : (i : Rid) (p : Prefix) (tag : List Hop) (g : Rid) → layout i (thing.Route p (goal.Group tag)) → Has layout (name.Group tag) g → hops_at objects g ≡ Some (hops_of tag)
+module _ (layout : Layout Rid) (objects : Objects) (laid : IsLaidOut layout objects) (made : ℕ) (whole : IsWhole made objects) (hops_of : List WHop → List WHop) (targets : AreTargets hops_of layout) where
+  group_hops : (i : Rid) (p : Prefix) (tag : List WHop) (g : Rid) → layout i (thing.Route p (goal.Group tag)) → Has layout (name.Group tag) g → hops_at objects g ≡ Some (hops_of tag)
   group_hops i p tag g route group =
-      let these = among layout objects laid g tag group objects (λ x b k. found-in objects x b whole.sorted k) in
+      let these = among layout objects laid g tag group whole.apart objects (λ x b k. found-in objects x b whole.sorted k) in
       these.is
-      ∙ ap Some (same-rising hop_cmp hop_total hop_exact these.those (hops_of tag) these.rising (targets.rising i p tag route) (λ hop k. let m = these.sound hop k in targets.only m.0 tag hop m.1) (λ hop k.
+      ∙ ap Some (same-hops these.those (hops_of tag) these.rising (targets.rising i p tag route) (λ hop k. let m = these.sound hop k in targets.only m.0 tag hop m.1) (λ hop k.
       let m = targets.have i p tag hop route k in
       let has = laid.stand m.0 (thing.GroupMember tag hop) m.1 in
       let object = in-found objects (entry_of m.0.0 has.0) has.0 has.2 in
@@ -76,7 +76,7 @@ module _ (layout : Layout Rid) (objects : Objects) (laid : IsLaidOut layout obje
   not_mapped f None t never e fw = absurd cc
   not_mapped f (Some x) t never e fw = never x (not_some (f x) t e fw)
 
-  group_not : (e : Entry Rid) (a c : Rid) (hs : List Hop) (t : Thing) → thing_of objects (e, body_with (thing.Group hs) a c) ≡ Some t → IsForwarding (name_of t) → ⊥
+  group_not : (e : Entry Rid) (a c : Rid) (hs : List WHop) (t : Thing) → thing_of objects (e, body_with (thing.Group hs) a c) ≡ Some t → IsForwarding (name_of t) → ⊥
   group_not (entry.Oid g) a c hs t e fw = not_mapped thing.Group (hops_at objects g) t (λ x f. f) e fw
   group_not (entry.Own ip) a c hs t e fw = absurd cc
   group_not (entry.Neigh r ip) a c hs t e fw = absurd cc

@@ -8,10 +8,10 @@ use Rattle.std.proofs.lemmas.Bool.Decides.{nat_tests}
 use Rattle.sai_types.specs.declared.ids.Rid.{Rid}
 use Rattle.sai_types.specs.declared.body.Body.TheVariants as body
 use Rattle.sai_types.specs.declared.body.Entry.TheVariants as entry
-use Rattle.sai_types.specs.declared.hop.Hop.{Hop}
+use Rattle.sai_types.specs.declared.weight.WHop.{WHop}
 use Rattle.sai_types.specs.declared.thing.Thing.{Thing}
 use Rattle.sai_types.specs.Alike.{IsIn}
-use Rattle.sai_types.specs.Named.{hop_cmp}
+use Rattle.sai_types.specs.Hop.{AreRisingHops, by_hop}
 use Rattle.sai_types.specs.Objects.{Objects, body_at}
 use Rattle.sai_types.specs.Refusal.{same_id}
 use Rattle.sai_types.proofs.Exact.{entry-exact, id-exact}
@@ -24,11 +24,11 @@ use Rattle.plan_laws.proofs.Named.{same_hops_exact, hops_refl}
 
 -- ---- fillers
 
-not_rising : (hops : List Hop) → IsStrictlySortedBy hop_cmp (no_hop ∷ no_hop ∷ hops) → ⊥
+not_rising : (hops : List WHop) → AreRisingHops (no_hop ∷ no_hop ∷ hops) → ⊥
 unfolding IsStrictlySortedBy
-not_rising hops h = let less : hop_cmp no_hop no_hop ≡ Less = h.0.0 in absurd cc
+not_rising hops h = let less : by_hop no_hop no_hop ≡ Less = h.0.0 in absurd cc
 
-pub filler_falls : (n : ℕ) → IsStrictlySortedBy hop_cmp (filler n) → ⊥
+pub filler_falls : (n : ℕ) → AreRisingHops (filler n) → ⊥
 filler_falls zero h = not_rising [] h
 filler_falls (suc zero) h = not_rising (no_hop ∷ []) h
 filler_falls (suc (suc n)) h = not_rising (filler n) h
@@ -44,24 +44,24 @@ abbrev group_id : ℕ → Rid
 group_id n = record { 0 = n }
 
 -- the hops that a tag is for: of a filler those of the group whose it is, else the tag itself
-abbrev pub hops_for : (Rid → List Hop) → List Hop → List Hop
+abbrev pub hops_for : (Rid → List WHop) → List WHop → List WHop
 hops_for hops tag = cond (same_hops (filler (length tag - 2)) tag) (hops (group_id (length tag - 2))) tag
 
-hops_by : (b : Bool) (hops tag : List Hop) (n : ℕ) → same_hops (filler n) tag ≡ b → IsStrictlySortedBy hop_cmp tag → cond b hops tag ≡ tag
-hops_by true hops tag n e up = absurd (filler_falls n (subst (IsStrictlySortedBy hop_cmp) (sym (same_hops_exact (filler n) tag e)) up))
+hops_by : (b : Bool) (hops tag : List WHop) (n : ℕ) → same_hops (filler n) tag ≡ b → AreRisingHops tag → cond b hops tag ≡ tag
+hops_by true hops tag n e up = absurd (filler_falls n (subst AreRisingHops (sym (same_hops_exact (filler n) tag e)) up))
 hops_by false hops tag n e up = refl
 
 -- hops that rise are for themselves
-pub hops-rising : (hops : Rid → List Hop) (tag : List Hop) → IsStrictlySortedBy hop_cmp tag → hops_for hops tag ≡ tag
+pub hops-rising : (hops : Rid → List WHop) (tag : List WHop) → AreRisingHops tag → hops_for hops tag ≡ tag
 hops-rising hops tag up = hops_by (same_hops (filler (length tag - 2)) tag) (hops (group_id (length tag - 2))) tag (length tag - 2) refl up
 
-hops_filler : (hops : Rid → List Hop) (n : ℕ) → hops_for hops (filler n) ≡ hops (group_id n)
+hops_filler : (hops : Rid → List WHop) (n : ℕ) → hops_for hops (filler n) ≡ hops (group_id n)
 hops_filler hops n =
     let long = filler_length n in
     let is : length (filler n) - 2 ≡ n = omega (arith, long) in
     ap (λ m. cond (same_hops (filler m) (filler n)) (hops (group_id m)) (filler n)) is ∙ ap (λ b. cond b (hops (group_id n)) (filler n)) (hops_refl (filler n))
 
-module _ (kept : Rid → Bool) (hops : Rid → List Hop) (rising : (g : Rid) → kept g ≡ true → IsStrictlySortedBy hop_cmp (hops g)) where
+module _ (kept : Rid → Bool) (hops : Rid → List WHop) (rising : (g : Rid) → kept g ≡ true → AreRisingHops (hops g)) where
   tag_by : (b : Bool) (g : Rid) → kept g ≡ b → hops_for hops (cond b (hops g) (filler g.0)) ≡ hops g
   tag_by true g e = hops-rising hops (hops g) (rising g e)
   tag_by false g e = hops_filler hops g.0
@@ -73,8 +73,8 @@ module _ (kept : Rid → Bool) (hops : Rid → List Hop) (rising : (g : Rid) →
   module _ (apart : (g h : Rid) → kept g ≡ true → kept h ≡ true → hops g ≡ hops h → g ≡ h) where
     apart_by : (x y : Bool) (g h : Rid) → kept g ≡ x → kept h ≡ y → cond x (hops g) (filler g.0) ≡ cond y (hops h) (filler h.0) → g ≡ h
     apart_by true true g h e f same = apart g h e f same
-    apart_by true false g h e f same = absurd (filler_falls h.0 (subst (IsStrictlySortedBy hop_cmp) same (rising g e)))
-    apart_by false true g h e f same = absurd (filler_falls g.0 (subst (IsStrictlySortedBy hop_cmp) (sym same) (rising h f)))
+    apart_by true false g h e f same = absurd (filler_falls h.0 (subst AreRisingHops same (rising g e)))
+    apart_by false true g h e f same = absurd (filler_falls g.0 (subst AreRisingHops (sym same) (rising h f)))
     apart_by false false g h e f same = ap group_id (filler_apart g.0 h.0 same)
 
     -- no two groups have one tag

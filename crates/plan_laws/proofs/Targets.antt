@@ -1,14 +1,13 @@
 -- the groups that routes point at are whole while a hitless plan is made
 use Rattle.std.proofs.Common.{◌≡◌, inl, inr, ◌-◌, ◌≤◌, ◌++◌, List, Some, refl, sym, ap, subst, arith}
-use Rattle.std.specs.List.Sorted.{IsStrictlySortedBy}
 use Rattle.swss_types.specs.declared.address.Prefix.{Prefix}
-use Rattle.sai_types.specs.declared.hop.Hop.{Hop}
+use Rattle.sai_types.specs.declared.weight.WHop.{WHop}
 use Rattle.sai_types.specs.declared.thing.Goal.{Goal}
 use Rattle.sai_types.specs.declared.thing.Goal.TheVariants as goal
 use Rattle.sai_types.specs.declared.thing.Thing.{Thing}
 use Rattle.sai_types.specs.declared.thing.Thing.TheVariants as thing
 use Rattle.sai_types.specs.Alike.{IsIn}
-use Rattle.sai_types.specs.Named.{hop_cmp}
+use Rattle.sai_types.specs.Hop.{AreRisingHops}
 use Rattle.sai_types.specs.Names as name
 use Rattle.sai_types.specs.Names.{ThingName, name_of}
 use Rattle.plan_laws.specs.Plans.{PlanChange, Make, Remove, Set, stands_after_all, hitless_rank, make_place, outcome, set_place}
@@ -19,24 +18,24 @@ use Rattle.plan_laws.proofs.Following.{HasNamed, IsUntouched, before, done-in, n
 use Rattle.plan_laws.proofs.Moving.{set-most}
 
 -- the tag of each group is for the hops of its members, which rise, and a route's group is there
-pub record AreTagged (hops_of : List Hop → List Hop) (things : List Thing) : Type 0 where
-  pub rising : (tag : List Hop) → IsIn (thing.Group tag) things → IsStrictlySortedBy hop_cmp (hops_of tag)
-  pub have : (tag : List Hop) (hop : Hop) → IsIn (thing.Group tag) things → IsIn hop (hops_of tag) → IsIn (thing.GroupMember tag hop) things
-  pub only : (tag : List Hop) (hop : Hop) → IsIn (thing.GroupMember tag hop) things → IsIn hop (hops_of tag)
-  pub there : (p : Prefix) (tag : List Hop) → IsIn (thing.Route p (goal.Group tag)) things → IsIn (thing.Group tag) things
+pub record AreTagged (hops_of : List WHop → List WHop) (things : List Thing) : Type 0 where
+  pub rising : (tag : List WHop) → IsIn (thing.Group tag) things → AreRisingHops (hops_of tag)
+  pub have : (tag : List WHop) (hop : WHop) → IsIn (thing.Group tag) things → IsIn hop (hops_of tag) → IsIn (thing.GroupMember tag hop) things
+  pub only : (tag : List WHop) (hop : WHop) → IsIn (thing.GroupMember tag hop) things → IsIn hop (hops_of tag)
+  pub there : (p : Prefix) (tag : List WHop) → IsIn (thing.Route p (goal.Group tag)) things → IsIn (thing.Group tag) things
 
 -- a hitless plan from things with tags to new ones, whose groups are named by their hops
-pub record IsTaggedPlan (hops_of : List Hop → List Hop) (old new : List Thing) (plan : List PlanChange) : Type 0 where
+pub record IsTaggedPlan (hops_of : List WHop → List WHop) (old new : List Thing) (plan : List PlanChange) : Type 0 where
   pub safe : IsSafePlan hitless_rank old new plan
   pub grouped : HaveWholeGroups new
   pub tagged : AreTagged hops_of old
-  pub same : (hops : List Hop) → IsIn (thing.Group hops) new → hops_of hops ≡ hops
+  pub same : (hops : List WHop) → IsIn (thing.Group hops) new → hops_of hops ≡ hops
 
-pub is-group : (u : Thing) (tag : List Hop) → name_of u ≡ name.Group tag → u ≡ thing.Group tag
+pub is-group : (u : Thing) (tag : List WHop) → name_of u ≡ name.Group tag → u ≡ thing.Group tag
 is-group (thing.Group hops) tag e = let same : hops ≡ tag = cc in ap thing.Group same
 is-group _ tag e = absurd cc
 
-pub is-member : (u : Thing) (tag : List Hop) (hop : Hop) → name_of u ≡ name.GroupMember tag hop → u ≡ thing.GroupMember tag hop
+pub is-member : (u : Thing) (tag : List WHop) (hop : WHop) → name_of u ≡ name.GroupMember tag hop → u ≡ thing.GroupMember tag hop
 is-member (thing.GroupMember hops h) tag hop e = let same : hops ≡ tag = cc in let one : h ≡ hop = cc in λ i. thing.GroupMember (same i) (one i)
 is-member _ tag hop e = absurd cc
 
@@ -45,14 +44,14 @@ route_late (Make t) p g small e = let same : t ≡ thing.Route p g = cc in let r
 route_late (Set t) p g small e = let same : t ≡ thing.Route p g = cc in let rank : set_place (name_of t) ≡ 800 = ap (λ u. set_place (name_of u)) same in omega (arith, rank)
 route_late (Remove k) p g small e = absurd cc
 
-module _ {hops_of : List Hop → List Hop} {old new : List Thing} {plan : List PlanChange} (q : IsTaggedPlan hops_of old new plan) where
-  pub group-of_route : (p : Prefix) (tag : List Hop) → IsIn (thing.Route p (goal.Group tag)) new → IsIn (thing.Group tag) new
+module _ {hops_of : List WHop → List WHop} {old new : List Thing} {plan : List PlanChange} (q : IsTaggedPlan hops_of old new plan) where
+  pub group-of_route : (p : Prefix) (tag : List WHop) → IsIn (thing.Route p (goal.Group tag)) new → IsIn (thing.Group tag) new
   group-of_route p tag i = let u = q.safe.within.refers (thing.Route p (goal.Group tag)) (name.Group tag) i (inl refl) in subst (λ z. IsIn z new) (is-group u.0 tag u.2) u.1
 
-  group_of_member : (tag : List Hop) (hop : Hop) → IsIn (thing.GroupMember tag hop) new → IsIn (thing.Group tag) new
+  group_of_member : (tag : List WHop) (hop : WHop) → IsIn (thing.GroupMember tag hop) new → IsIn (thing.Group tag) new
   group_of_member tag hop i = let u = q.safe.within.refers (thing.GroupMember tag hop) (name.Group tag) i (inl refl) in subst (λ z. IsIn z new) (is-group u.0 tag u.2) u.1
 
-  new_member : (p : Prefix) (tag : List Hop) (hop : Hop) → IsIn (thing.Route p (goal.Group tag)) new → IsIn hop (hops_of tag) → IsIn (thing.GroupMember tag hop) new
+  new_member : (p : Prefix) (tag : List WHop) (hop : WHop) → IsIn (thing.Route p (goal.Group tag)) new → IsIn hop (hops_of tag) → IsIn (thing.GroupMember tag hop) new
   new_member p tag hop i h = let group = group-of_route p tag i in q.grouped.have tag hop group (subst (IsIn hop) (q.same tag group) h)
 
   module _ (done due : List PlanChange) (cut : plan ≡ done ++ due) where
@@ -63,18 +62,18 @@ module _ {hops_of : List Hop → List Hop} {old new : List Thing} {plan : List P
     comes c u i o = outcome-new q.safe.is_plan c u (done-in q.safe.is_plan done due cut c i) o
 
     -- a member that stands is for one of the hops of its group
-    pub member-only : (tag : List Hop) (hop : Hop) → now (thing.GroupMember tag hop) → IsIn hop (hops_of tag)
+    pub member-only : (tag : List WHop) (hop : WHop) → now (thing.GroupMember tag hop) → IsIn hop (hops_of tag)
     member-only tag hop h =
         elim (origin done (λ u. IsIn u old) (thing.GroupMember tag hop) h) [
           | inl there ↦ q.tagged.only tag hop there.0
           | inr c ↦ let i = comes c.0 (thing.GroupMember tag hop) c.1 c.2 in subst (IsIn hop) (sym (q.same tag (group_of_member tag hop i))) (q.grouped.only tag hop i)
         ]
 
-    stands_as : (tag : List Hop) (hop : Hop) → HasNamed now (name.GroupMember tag hop) → now (thing.GroupMember tag hop)
+    stands_as : (tag : List WHop) (hop : WHop) → HasNamed now (name.GroupMember tag hop) → now (thing.GroupMember tag hop)
     stands_as tag hop h = subst now (is-member h.0 tag hop h.2) h.1
 
     -- the members of a new route's group are made before it
-    by_change : (p : Prefix) (tag : List Hop) (hop : Hop) (c : PlanChange) → IsIn c done → outcome c ≡ Some (thing.Route p (goal.Group tag)) → IsIn hop (hops_of tag) → now (thing.GroupMember tag hop)
+    by_change : (p : Prefix) (tag : List WHop) (hop : WHop) (c : PlanChange) → IsIn c done → outcome c ≡ Some (thing.Route p (goal.Group tag)) → IsIn hop (hops_of tag) → now (thing.GroupMember tag hop)
     by_change p tag hop c i o h =
         let route = comes c (thing.Route p (goal.Group tag)) i o in
         elim (new-stands q.safe.is_plan done due cut (thing.GroupMember tag hop) (new_member p tag hop route h)) [
@@ -86,7 +85,7 @@ module _ {hops_of : List Hop → List Hop} {old new : List Thing} {plan : List P
         ]
 
     -- and those of an old route's group are removed after it
-    by_old : (p : Prefix) (tag : List Hop) (hop : Hop) → IsIn (thing.Route p (goal.Group tag)) old → IsUntouched done (name.Route p) → IsIn hop (hops_of tag) → now (thing.GroupMember tag hop)
+    by_old : (p : Prefix) (tag : List WHop) (hop : WHop) → IsIn (thing.Route p (goal.Group tag)) old → IsUntouched done (name.Route p) → IsIn hop (hops_of tag) → now (thing.GroupMember tag hop)
     by_old p tag hop i free h =
         elim (old-stands q.safe.is_plan done due cut (thing.GroupMember tag hop) (q.tagged.have tag hop (q.tagged.there p tag i) h)) [
           | inl m ↦ stands_as tag hop m
@@ -100,18 +99,18 @@ module _ {hops_of : List Hop → List Hop} {old new : List Thing} {plan : List P
         ]
 
     -- where a route points at a group, each hop of the group has its member
-    pub member-there : (p : Prefix) (tag : List Hop) (hop : Hop) → now (thing.Route p (goal.Group tag)) → IsIn hop (hops_of tag) → now (thing.GroupMember tag hop)
+    pub member-there : (p : Prefix) (tag : List WHop) (hop : WHop) → now (thing.Route p (goal.Group tag)) → IsIn hop (hops_of tag) → now (thing.GroupMember tag hop)
     member-there p tag hop h member =
         elim (origin done (λ u. IsIn u old) (thing.Route p (goal.Group tag)) h) [
           | inl there ↦ by_old p tag hop there.0 there.1 member
           | inr c ↦ by_change p tag hop c.0 c.1 c.2 member
         ]
 
-    pub target-rising : (p : Prefix) (tag : List Hop) → now (thing.Route p (goal.Group tag)) → IsStrictlySortedBy hop_cmp (hops_of tag)
+    pub target-rising : (p : Prefix) (tag : List WHop) → now (thing.Route p (goal.Group tag)) → AreRisingHops (hops_of tag)
     target-rising p tag h =
         elim (origin done (λ u. IsIn u old) (thing.Route p (goal.Group tag)) h) [
           | inl there ↦ q.tagged.rising tag (q.tagged.there p tag there.0)
           | inr c ↦
               let group = group-of_route p tag (comes c.0 (thing.Route p (goal.Group tag)) c.1 c.2) in
-              subst (IsStrictlySortedBy hop_cmp) (sym (q.same tag group)) (q.grouped.rising tag group)
+              subst AreRisingHops (sym (q.same tag group)) (q.grouped.rising tag group)
         ]

@@ -9,6 +9,7 @@ use Rattle.swss_types.specs.declared.address.Prefix.{Prefix}
 use Rattle.sai_types.specs.declared.ids.Rid.{Rid}
 use Rattle.sai_types.specs.declared.hop.Base.TheVariants as base
 use Rattle.sai_types.specs.declared.hop.Hop.{Hop}
+use Rattle.sai_types.specs.declared.weight.WHop.{WHop}
 use Rattle.sai_types.specs.declared.body.Attr.TheVariants as attr
 use Rattle.sai_types.specs.declared.body.Body.TheVariants as body
 use Rattle.sai_types.specs.declared.body.Call.{Call}
@@ -23,10 +24,10 @@ use Rattle.sai_types.specs.declared.thing.Thing.{Thing}
 use Rattle.sai_types.specs.declared.thing.Thing.TheVariants as thing
 use Rattle.sai_types.specs.After.{after_calls, chip_after}
 use Rattle.sai_types.specs.Alike.{IsIn}
-use Rattle.sai_types.specs.Forwarding.{Decision, Via, decide}
+use Rattle.sai_types.specs.Forwarding.{Decision, Via, alone, decide}
 use Rattle.sai_types.specs.Made.{AreLegal}
 use Rattle.sai_types.specs.Names as name
-use Rattle.sai_types.specs.Names.{Refers, ShareLane}
+use Rattle.sai_types.specs.Names.{Overlap, Refers}
 use Rattle.sai_types.specs.Objects.{Objects}
 use Rattle.sai_types.proofs.Whole.{whole-empty}
 use Rattle.chip_layout.specs.Seen.{no_id}
@@ -47,6 +48,9 @@ mac n = record { 0 = n ∷ n ∷ n ∷ n ∷ n ∷ n ∷ [] }
 abbrev hop : ℕ → Hop
 hop n = record { on = base.Vlan 10; ip = ip n }
 
+abbrev weighed : ℕ → ℕ → WHop
+weighed n weight = record { hop = hop n; weight = weight }
+
 -- the prefixes 0.0.1.0/24 and 0.0.0.0/16
 abbrev narrow : Prefix
 narrow = record { ip = ip 256; len = 24 }
@@ -66,8 +70,8 @@ building =
     ∷ call.Create (body.Neighbor (id 2) (ip 3) (mac 3))
     ∷ call.Create (body.NextHop (id 2) (ip 3))
     ∷ call.Create body.Group
-    ∷ call.Create (body.GroupMember (id 6) (id 3))
-    ∷ call.Create (body.GroupMember (id 6) (id 4))
+    ∷ call.Create (body.GroupMember (id 6) (id 3) 1)
+    ∷ call.Create (body.GroupMember (id 6) (id 4) 1)
     ∷ call.Create (body.Route narrow (to.Group (id 6)))
     ∷ call.Create (body.Route wide (to.NextHop (id 3)))
     ∷ []
@@ -75,18 +79,18 @@ building =
 abbrev objects : Objects
 objects = chip_after building 13
 
-abbrev old_group : List Hop
-old_group = hop 1 ∷ hop 2 ∷ []
+abbrev old_group : List WHop
+old_group = weighed 1 1 ∷ weighed 2 1 ∷ []
 
-abbrev new_group : List Hop
-new_group = hop 2 ∷ hop 3 ∷ []
+abbrev new_group : List WHop
+new_group = weighed 2 3 ∷ weighed 3 1 ∷ []
 
--- the new view: the narrow route points at a group of the last two
+-- the new view: the narrow route points at a group of the last two, of which the first has the greater weight
 abbrev new : List Thing
 new =
     thing.Vlan 10 ∷ thing.Rif (base.Vlan 10) ∷ thing.Neighbor (hop 1) (mac 1) ∷ thing.Neighbor (hop 2) (mac 2) ∷ thing.Neighbor (hop 3) (mac 3)
     ∷ thing.NextHop (hop 1) ∷ thing.NextHop (hop 2) ∷ thing.NextHop (hop 3)
-    ∷ thing.Group new_group ∷ thing.GroupMember new_group (hop 2) ∷ thing.GroupMember new_group (hop 3)
+    ∷ thing.Group new_group ∷ thing.GroupMember new_group (weighed 2 3) ∷ thing.GroupMember new_group (weighed 3 1)
     ∷ thing.Route narrow (goal.Group new_group) ∷ thing.Route wide (goal.Via (hop 1)) ∷ []
 
 -- the old group does not stay, so it has a tag in the place of its hops
@@ -97,11 +101,11 @@ old_group_goes = refl
 abbrev plan : List PlanChange
 plan =
     Make (thing.Group new_group)
-    ∷ Make (thing.GroupMember new_group (hop 2))
-    ∷ Make (thing.GroupMember new_group (hop 3))
+    ∷ Make (thing.GroupMember new_group (weighed 2 3))
+    ∷ Make (thing.GroupMember new_group (weighed 3 1))
     ∷ Set (thing.Route narrow (goal.Group new_group))
-    ∷ Remove (name.GroupMember (filler 6) (hop 1))
-    ∷ Remove (name.GroupMember (filler 6) (hop 2))
+    ∷ Remove (name.GroupMember (filler 6) (weighed 1 1))
+    ∷ Remove (name.GroupMember (filler 6) (weighed 2 1))
     ∷ Remove (name.Group (filler 6))
     ∷ []
 
@@ -112,8 +116,8 @@ ranks = refl
 abbrev calls : List (Call Rid)
 calls =
     call.Create body.Group
-    ∷ call.Create (body.GroupMember (id 9) (id 4))
-    ∷ call.Create (body.GroupMember (id 9) (id 5))
+    ∷ call.Create (body.GroupMember (id 9) (id 4) 3)
+    ∷ call.Create (body.GroupMember (id 9) (id 5) 1)
     ∷ call.Set (entry.Route narrow) (attr.To (to.Group (id 9)))
     ∷ call.Remove (entry.Oid (id 7))
     ∷ call.Remove (entry.Oid (id 8))
@@ -135,11 +139,11 @@ narrow_moves : map (after 300) (0 ∷ 1 ∷ 2 ∷ 3 ∷ 4 ∷ 5 ∷ 6 ∷ 7 ∷ 
 narrow_moves = refl
 
 -- and one that the wide prefix alone covers stays
-wide_stays : map (after 700) (0 ∷ 1 ∷ 2 ∷ 3 ∷ 4 ∷ 5 ∷ 6 ∷ 7 ∷ []) ≡ Via (hop 1 ∷ []) ∷ Via (hop 1 ∷ []) ∷ Via (hop 1 ∷ []) ∷ Via (hop 1 ∷ []) ∷ Via (hop 1 ∷ []) ∷ Via (hop 1 ∷ []) ∷ Via (hop 1 ∷ []) ∷ Via (hop 1 ∷ []) ∷ []
+wide_stays : map (after 700) (0 ∷ 1 ∷ 2 ∷ 3 ∷ 4 ∷ 5 ∷ 6 ∷ 7 ∷ []) ≡ Via (alone (hop 1) ∷ []) ∷ Via (alone (hop 1) ∷ []) ∷ Via (alone (hop 1) ∷ []) ∷ Via (alone (hop 1) ∷ []) ∷ Via (alone (hop 1) ∷ []) ∷ Via (alone (hop 1) ∷ []) ∷ Via (alone (hop 1) ∷ []) ∷ Via (alone (hop 1) ∷ []) ∷ []
 wide_stays = refl
 
 -- in the end the new view stands
-worked_plan_ends : chip_things (after_calls 8 objects calls) ≡ thing.Vlan 10 ∷ thing.Rif (base.Vlan 10) ∷ thing.NextHop (hop 1) ∷ thing.NextHop (hop 2) ∷ thing.NextHop (hop 3) ∷ thing.Group new_group ∷ thing.GroupMember new_group (hop 2) ∷ thing.GroupMember new_group (hop 3) ∷ thing.Neighbor (hop 1) (mac 1) ∷ thing.Neighbor (hop 2) (mac 2) ∷ thing.Neighbor (hop 3) (mac 3) ∷ thing.Route wide (goal.Via (hop 1)) ∷ thing.Route narrow (goal.Group new_group) ∷ []
+worked_plan_ends : chip_things (after_calls 8 objects calls) ≡ thing.Vlan 10 ∷ thing.Rif (base.Vlan 10) ∷ thing.NextHop (hop 1) ∷ thing.NextHop (hop 2) ∷ thing.NextHop (hop 3) ∷ thing.Group new_group ∷ thing.GroupMember new_group (weighed 2 3) ∷ thing.GroupMember new_group (weighed 3 1) ∷ thing.Neighbor (hop 1) (mac 1) ∷ thing.Neighbor (hop 2) (mac 2) ∷ thing.Neighbor (hop 3) (mac 3) ∷ thing.Route wide (goal.Via (hop 1)) ∷ thing.Route narrow (goal.Group new_group) ∷ []
 worked_plan_ends = refl
 
 -- ---- the premises can be met: a route comes to an empty chip
@@ -175,7 +179,7 @@ comes = record {
       within = record { refers = λ t k i r. elim (subst (λ z. Refers z k) (only_the_route t i) r) [ ] };
       grouped = record { rising = λ hops i. let e = only_the_route _ i in absurd cc; have = λ hops hop i h. let e = only_the_route _ i in absurd cc; only = λ hops hop i. let e = only_the_route _ i in absurd cc };
     };
-    lanes = record { apart = λ t u i j l. absurd (subst (λ z. ShareLane z u) (only_the_route t i) l) };
+    lanes = record { apart = λ t u i j l. absurd (subst (λ z. Overlap z u) (only_the_route t i) l) };
     is_plan = record {
       makes = λ t i. let e = made_only (Make t) i in let is : t ≡ route = cc in (inl is, λ u j same. j);
       sets = λ t i. let e = made_only (Set t) i in absurd cc;

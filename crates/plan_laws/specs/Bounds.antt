@@ -22,7 +22,7 @@ makes_kind kind _ = false
 
 -- an object is a double: of several groups of the same hops, one whose identifier is not the least, or a member of it
 abbrev pub IsDouble : Objects → Entry Rid → Body Rid → Type 0
-IsDouble objects e (body.GroupMember g n) = is_double objects g ≡ true
+IsDouble objects e (body.GroupMember g n weight) = is_double objects g ≡ true
 IsDouble objects (entry.Oid g) body.Group = is_double objects g ≡ true
 IsDouble objects e b = ⊥
 

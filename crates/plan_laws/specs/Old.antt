@@ -8,10 +8,10 @@ use Rattle.sai_types.specs.declared.body.Body.TheVariants as body
 use Rattle.sai_types.specs.declared.body.Entry.{Entry}
 use Rattle.sai_types.specs.declared.body.Entry.TheVariants as entry
 use Rattle.sai_types.specs.declared.hop.Base.TheVariants as base
-use Rattle.sai_types.specs.declared.hop.Hop.{Hop}
+use Rattle.sai_types.specs.contracts.weight.WHopPartialEq.TheImpl as whop_eq
+use Rattle.sai_types.specs.declared.weight.WHop.{WHop}
 use Rattle.sai_types.specs.declared.thing.Thing.{Thing}
 use Rattle.sai_types.specs.declared.thing.Thing.TheVariants as thing
-use Rattle.sai_types.specs.Forwarding.{same_hop}
 use Rattle.sai_types.specs.Named.{hops_at, thing_by, those}
 use Rattle.sai_types.specs.Objects.{Objects}
 use Rattle.sai_types.specs.Refusal.{same_id}
@@ -28,21 +28,24 @@ chip_group _ = None
 abbrev pub chip_groups : Objects → List Rid
 chip_groups objects = those (map chip_group objects)
 
-abbrev pub hops_or_none : Option (List Hop) → List Hop
+abbrev pub hops_or_none : Option (List WHop) → List WHop
 hops_or_none None = []
 hops_or_none (Some hops) = hops
 
 -- the hops of a group's members
-abbrev pub shown_hops : Objects → Rid → List Hop
+abbrev pub shown_hops : Objects → Rid → List WHop
 shown_hops objects g = hops_or_none (hops_at objects g)
 
-abbrev pub same_hops : List Hop → List Hop → Bool
+abbrev pub same_whop : WHop → WHop → Bool
+same_whop = whop_eq.ghosts.eq
+
+abbrev pub same_hops : List WHop → List WHop → Bool
 same_hops [] [] = true
-same_hops (x ∷ xs) (y ∷ ys) = same_hop x y && same_hops xs ys
+same_hops (x ∷ xs) (y ∷ ys) = same_whop x y && same_hops xs ys
 same_hops _ _ = false
 
 -- whether a thing is the group of these hops
-abbrev pub is_group_of : List Hop → Thing → Bool
+abbrev pub is_group_of : List WHop → Thing → Bool
 is_group_of hops (thing.Group other) = same_hops other hops
 is_group_of hops _ = false
 
@@ -56,25 +59,25 @@ group_stays objects new g = list_any (same_id g) (chip_groups objects) && (list_
 
 -- ---- tags
 
-abbrev pub no_hop : Hop
-no_hop = record { on = base.Port 0; ip = record { family = V4; bits = 0 } }
+abbrev pub no_hop : WHop
+no_hop = record { hop = record { on = base.Port 0; ip = record { family = V4; bits = 0 } }; weight = 1 }
 
 -- hops that do not rise, and so are no group's: a list of them for each number
-abbrev pub filler : ℕ → List Hop
+abbrev pub filler : ℕ → List WHop
 filler zero = no_hop ∷ no_hop ∷ []
 filler (suc n) = no_hop ∷ filler n
 
 -- the tag of a group: of one that is kept its hops, and of another a filler
-abbrev pub tag_for : (Rid → Bool) → (Rid → List Hop) → Rid → List Hop
+abbrev pub tag_for : (Rid → Bool) → (Rid → List WHop) → Rid → List WHop
 tag_for kept hops g = if kept g then hops g else filler g.0
 
 -- the things that a chip shows, where groups have tags
-abbrev pub seen_things : (Rid → List Hop) → Objects → List Thing
+abbrev pub seen_things : (Rid → List WHop) → Objects → List Thing
 seen_things tag objects = those (map (thing_by (tagged tag) objects) objects)
 
 -- ---- the old things
 
-abbrev pub tag_of : Objects → List Thing → Rid → List Hop
+abbrev pub tag_of : Objects → List Thing → Rid → List WHop
 tag_of objects new = tag_for (group_stays objects new) (shown_hops objects)
 
 abbrev pub old_things : Objects → List Thing → List Thing

@@ -1,16 +1,16 @@
 -- The views that a plan leads between, and the room that it needs. Own.
 use Rattle.std.specs.Prelude.{◌≡◌, ◌⊎◌, ℕ, ◌+◌, ◌≤◌, ◌==◌, List, length, map, Option, None, Some, if◌then◌else◌}
-use Rattle.std.specs.List.Sorted.{IsStrictlySortedBy}
 use Rattle.swss_types.specs.Address.{IsProperPrefix}
 use Rattle.swss_types.specs.declared.address.Prefix.{Prefix}
-use Rattle.sai_types.specs.declared.hop.Hop.{Hop}
+use Rattle.sai_types.specs.declared.weight.WHop.{WHop}
 use Rattle.sai_types.specs.declared.kind.Kind.{Kind}
 use Rattle.sai_types.specs.declared.thing.Goal.{Goal}
 use Rattle.sai_types.specs.declared.thing.Thing.{Thing}
 use Rattle.sai_types.specs.declared.thing.Thing.TheVariants as thing
 use Rattle.sai_types.specs.Alike.{IsIn}
-use Rattle.sai_types.specs.Named.{hop_cmp, those}
-use Rattle.sai_types.specs.Names.{ThingName, Refers, ShareLane, name_kind, name_of}
+use Rattle.sai_types.specs.Hop.{AreRisingHops}
+use Rattle.sai_types.specs.Named.{those}
+use Rattle.sai_types.specs.Names.{ThingName, Refers, Overlap, name_kind, name_of}
 use Rattle.sai_types.specs.Objects.{Objects, level, used}
 use Rattle.sai_types.specs.Refusal.{capacity_of}
 use Rattle.chip_layout.specs.Counted.{AreDistinct}
@@ -25,15 +25,15 @@ pub record HaveOwnNames (things : List Thing) : Type 0 where
 pub record ReferWithin (things : List Thing) : Type 0 where
   pub refers : (t : Thing) (k : ThingName) → IsIn t things → Refers t k → (u : Thing) × IsIn u things × (name_of u ≡ k)
 
--- a new port and another have one name where they have a lane in common
+-- a new thing and another have one name where they overlap: a port and another with a common lane, a member of a group and another of its hop
 pub record LanesApart (old new : List Thing) : Type 0 where
-  pub apart : (t u : Thing) → IsIn t new → IsIn u old ⊎ IsIn u new → ShareLane t u → name_of t ≡ name_of u
+  pub apart : (t u : Thing) → IsIn t new → IsIn u old ⊎ IsIn u new → Overlap t u → name_of t ≡ name_of u
 
 -- each group of the view has a member for each of its hops and no other, and its hops rise
 pub record HaveWholeGroups (things : List Thing) : Type 0 where
-  pub rising : (hops : List Hop) → IsIn (thing.Group hops) things → IsStrictlySortedBy hop_cmp hops
-  pub have : (hops : List Hop) (hop : Hop) → IsIn (thing.Group hops) things → IsIn hop hops → IsIn (thing.GroupMember hops hop) things
-  pub only : (hops : List Hop) (hop : Hop) → IsIn (thing.GroupMember hops hop) things → IsIn hop hops
+  pub rising : (hops : List WHop) → IsIn (thing.Group hops) things → AreRisingHops hops
+  pub have : (hops : List WHop) (hop : WHop) → IsIn (thing.Group hops) things → IsIn hop hops → IsIn (thing.GroupMember hops hop) things
+  pub only : (hops : List WHop) (hop : WHop) → IsIn (thing.GroupMember hops hop) things → IsIn hop hops
 
 -- ---- room
 

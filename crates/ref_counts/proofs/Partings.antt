@@ -9,8 +9,8 @@ use Rattle.std.specs.Ordering.{ordering_reverse, ordering_then}
 use Rattle.std.specs.declared.cmp.Ordering.{Ordering}
 use Rattle.std.specs.declared.cmp.Ordering.TheVariants.{Less, Greater}
 use Rattle.std.proofs.lemmas.Map.{keys-set_value}
-use Rattle.sai_types.specs.Hop.{hop_cmp}
-use Rattle.sai_types.specs.declared.hop.Hop.{Hop}
+use Rattle.sai_types.specs.Hop.{whop_cmp}
+use Rattle.sai_types.specs.declared.weight.WHop.{WHop}
 use Rattle.swss_types.specs.AddressOrder.{prefix_cmp}
 use Rattle.swss_types.specs.declared.address.Ip.{Ip}
 use Rattle.swss_types.specs.declared.address.Prefix.{Prefix}
@@ -39,8 +39,8 @@ among_rows (key.Member vlan port) neighbor route other = omega arith
 among_rows (key.Intf on) neighbor route other = omega arith
 among_rows (key.Addr on ip len) neighbor route other = omega arith
 
-abbrev hops_cmp : List Hop → List Hop → Ordering
-hops_cmp = slice_cmp hop_cmp
+abbrev hops_cmp : List WHop → List WHop → Ordering
+hops_cmp = slice_cmp whop_cmp
 
 rows_same : (k q : Key) → registered_name_cmp (name.Row k) (name.Row q) ≡ key_cmp k q
 rows_same k q = refl
@@ -51,7 +51,7 @@ neighbors_same m n = refl
 routes_same : (p q : Prefix) → registered_name_cmp (route_name p) (route_name q) ≡ prefix_cmp p q
 routes_same p q = refl
 
-groups_same : (g h : List Hop) → registered_name_cmp (name.Group g) (name.Group h) ≡ hops_cmp g h
+groups_same : (g h : List WHop) → registered_name_cmp (name.Group g) (name.Group h) ≡ hops_cmp g h
 groups_same g h = refl
 
 -- the second name is above the first, or below it
@@ -68,7 +68,7 @@ row_below k (name.BridgePort p) lt = refl
 row_below k (name.Own ip) lt = refl
 row_below k (name.Group hops) lt = refl
 
-group_above : (n : Name) (hops : List Hop) → table_place_of_name n < place_of_groups → IsAbove n (name.Group hops)
+group_above : (n : Name) (hops : List WHop) → table_place_of_name n < place_of_groups → IsAbove n (name.Group hops)
 group_above (name.Row k) hops lt = refl
 group_above (name.BridgePort p) hops lt = refl
 group_above (name.Own ip) hops lt = refl
@@ -128,7 +128,7 @@ module _ (r : Inside) (h : AreParted r.rows r.others) where
   routes_below : (n : Name) → place_of_routes < table_place_of_name n → AllBelow registered_name_cmp n the_routes
   routes_below n lt = all-named (IsBelow n) route_name (λ p. turned (route_name p) n (row_below (key.Route p) n lt)) r.routes
 
-  others_below : (hops : List Hop) → AllBelow registered_name_cmp (name.Group hops) r.others
+  others_below : (hops : List WHop) → AllBelow registered_name_cmp (name.Group hops) r.others
   others_below hops = all-kept (IsBelow (name.Group hops)) IsAmongOthers (λ m is. turned m (name.Group hops) (group_above m hops is.1)) r.others h.of_others
 
   -- each part stands in the whole
@@ -156,7 +156,7 @@ module _ (r : Inside) (h : AreParted r.rows r.others) where
       let first = StandsIn-above (StandsIn-itself registered_name_cmp n r.others) the_groups (groups_above n is.1) in
       past_neighbors _ _ _ _ _ (omega arith) (StandsIn-below first the_routes (routes_below n is.0))
 
-  pub group-stands : (hops : List Hop) → StandsIn hops_cmp hops registered_name_cmp (name.Group hops) r.groups (λ l. all_names r.rows r.neighbors r.routes r.others l)
+  pub group-stands : (hops : List WHop) → StandsIn hops_cmp hops registered_name_cmp (name.Group hops) r.groups (λ l. all_names r.rows r.neighbors r.routes r.others l)
   group-stands hops =
       let own = StandsIn-renamed hops_cmp registered_name_cmp name.Group groups_same hops r.groups in
       past_neighbors _ _ _ _ _ (omega arith) (StandsIn-below (StandsIn-below own r.others (others_below hops)) the_routes (routes_below (name.Group hops) (omega arith)))

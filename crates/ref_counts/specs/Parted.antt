@@ -6,7 +6,7 @@ use Rattle.std.specs.Map.{keys_of}
 use Rattle.std.specs.Ordering.{ordering_then}
 use Rattle.std.specs.declared.cmp.Ordering.{Ordering}
 use Rattle.late_maps.specs.Segments.{renamed}
-use Rattle.sai_types.specs.declared.hop.Hop.{Hop}
+use Rattle.sai_types.specs.declared.weight.WHop.{WHop}
 use Rattle.swss_types.specs.AddressOrder.{ip_cmp}
 use Rattle.swss_types.specs.NameOrder.{name_cmp}
 use Rattle.swss_types.specs.declared.address.Ip.{Ip}
@@ -62,7 +62,7 @@ abbrev pub IsAmongOthers : Name → Type 0
 IsAmongOthers n = (place_of_routes < table_place_of_name n) × (table_place_of_name n < place_of_groups)
 
 -- the part of a name, and what stands there for it
-abbrev pub IsPart : Part Key Prefix Name (List Hop) → Name → Type 0
+abbrev pub IsPart : Part Key Prefix Name (List WHop) → Name → Type 0
 IsPart (part.Row k) n = (n ≡ name.Row k) × IsAmongRows k
 IsPart (part.Neighbor m) n = n ≡ neighbor_name m
 IsPart (part.Route p) n = n ≡ route_name p
@@ -70,7 +70,7 @@ IsPart (part.Other m) n = (n ≡ m) × IsAmongOthers m
 IsPart (part.Group hops) n = n ≡ name.Group hops
 
 -- the same by references
-abbrev pub IsPartOf : Part (Bor Key) (Bor Prefix) (Bor Name) (Bor (List Hop)) → Name → Type 0
+abbrev pub IsPartOf : Part (Bor Key) (Bor Prefix) (Bor Name) (Bor (List WHop)) → Name → Type 0
 IsPartOf (part.Row k) = IsPart (part.Row k.now)
 IsPartOf (part.Neighbor m) = IsPart (part.Neighbor m)
 IsPartOf (part.Route p) = IsPart (part.Route p.now)
@@ -78,7 +78,7 @@ IsPartOf (part.Other m) = IsPart (part.Other m.now)
 IsPartOf (part.Group hops) = IsPart (part.Group hops.now)
 
 -- the five parts, one after another
-abbrev pub all_names : List (Key × Registered) → List (Neighbor × Registered) → List (Prefix × Registered) → Names → List (List Hop × Registered) → Names
+abbrev pub all_names : List (Key × Registered) → List (Neighbor × Registered) → List (Prefix × Registered) → Names → List (List WHop × Registered) → Names
 all_names rows neighbors routes others groups = renamed name.Row rows ++ (renamed neighbor_name neighbors ++ (renamed route_name routes ++ (others ++ renamed name.Group groups)))
 
 -- no key stands in another's part

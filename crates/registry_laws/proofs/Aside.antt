@@ -4,7 +4,7 @@ use Rattle.std.proofs.lemmas.Bool.{eq-eqb, eqb-true}
 use Rattle.std.proofs.lemmas.Option.{same_Some}
 use Rattle.table_schema.specs.Plan.{IsPlan, Ports}
 use Rattle.table_schema.specs.declared.row.Row.{Row}
-use Rattle.sai_types.specs.declared.hop.Hop.{Hop}
+use Rattle.sai_types.specs.declared.weight.WHop.{WHop}
 use Rattle.sai_types.specs.declared.ids.Rid.{Rid}
 use Rattle.sai_types.specs.declared.thing.Thing.{Thing}
 use Rattle.sai_types.specs.Alike.{IsIn}
@@ -38,10 +38,10 @@ use Rattle.registry_laws.proofs.Telling.{touched-one}
 
 -- ---- the group that is built
 
-pub built_some : (names : registry.Names) (w : ℕ) (hops : List Hop) → state_of names (name.Group hops) ≡ state.Building w → built_in names w (Some hops) ≡ Some hops
+pub built_some : (names : registry.Names) (w : ℕ) (hops : List WHop) → state_of names (name.Group hops) ≡ state.Building w → built_in names w (Some hops) ≡ Some hops
 built_some names w hops h = ap (λ st. if is_built_by w st then Some hops else None) h ∙ ap (λ b. if b then Some hops else None) (eq-eqb w w refl)
 
-pub built_none : (names : registry.Names) (w : ℕ) (hops : List Hop) → (state_of names (name.Group hops) ≡ state.Building w → ⊥) → built_in names w (Some hops) ≡ None
+pub built_none : (names : registry.Names) (w : ℕ) (hops : List WHop) → (state_of names (name.Group hops) ≡ state.Building w → ⊥) → built_in names w (Some hops) ≡ None
 built_none names w hops other = by (state_of names (name.Group hops)) other
   where
     by_worker : (v : ℕ) (b : Bool) → (v == w) ≡ b → (state.Building v ≡ state.Building w → ⊥) → (if b then Some hops else None) ≡ None
@@ -54,7 +54,7 @@ built_none names w hops other = by (state_of names (name.Group hops)) other
     by state.Live other = refl
     by (state.Retiring v) other = refl
 
-pub built_state : (names : registry.Names) (w : ℕ) (x : Option (List Hop)) (hops : List Hop) → built_in names w x ≡ Some hops → (x ≡ Some hops) × (state_of names (name.Group hops) ≡ state.Building w)
+pub built_state : (names : registry.Names) (w : ℕ) (x : Option (List WHop)) (hops : List WHop) → built_in names w x ≡ Some hops → (x ≡ Some hops) × (state_of names (name.Group hops) ≡ state.Building w)
 built_state names w None hops h = not_some hops h
 built_state names w (Some other) hops h = by (state_of names (name.Group other)) refl h
   where
@@ -68,11 +68,11 @@ built_state names w (Some other) hops h = by (state_of names (name.Group other))
     by state.Live e h = not_some hops h
     by (state.Retiring v) e h = not_some hops h
 
-pub built_same : (names names' : registry.Names) (w : ℕ) (x : Option (List Hop)) → ((hops : List Hop) → state_of names (name.Group hops) ≡ state.Building w → state_of names' (name.Group hops) ≡ state.Building w) → ((hops : List Hop) → state_of names' (name.Group hops) ≡ state.Building w → state_of names (name.Group hops) ≡ state.Building w) → built_in names w x ≡ built_in names' w x
+pub built_same : (names names' : registry.Names) (w : ℕ) (x : Option (List WHop)) → ((hops : List WHop) → state_of names (name.Group hops) ≡ state.Building w → state_of names' (name.Group hops) ≡ state.Building w) → ((hops : List WHop) → state_of names' (name.Group hops) ≡ state.Building w → state_of names (name.Group hops) ≡ state.Building w) → built_in names w x ≡ built_in names' w x
 built_same names names' w None into back = refl
 built_same names names' w (Some hops) into back = by (built_in names w (Some hops)) refl
   where
-    by : (x : Option (List Hop)) → built_in names w (Some hops) ≡ x → built_in names w (Some hops) ≡ built_in names' w (Some hops)
+    by : (x : Option (List WHop)) → built_in names w (Some hops) ≡ x → built_in names w (Some hops) ≡ built_in names' w (Some hops)
     by None e = e ∙ sym (built_none names' w hops (λ h. never_none hops (sym (built_some names w hops (back hops h)) ∙ e)))
     by (Some other) e =
         let b = built_state names w (Some hops) other e in
@@ -171,13 +171,13 @@ module _ (plan : Ports) (is : IsPlan plan) (capacities : List ℕ) (names : regi
   group_same : (v : ℕ) (f : Operation) → (v ≡ w → ⊥) → f.worker ≡ v → group_to_build plan names f ≡ group_to_build plan names' f
   group_same v f apart worker = built_same names names' f.worker (group_in (uses_of plan f.key f.new)) (λ hops h. into hops h) (λ hops h. back hops h)
     where
-      into : (hops : List Hop) → state_of names (name.Group hops) ≡ state.Building f.worker → state_of names' (name.Group hops) ≡ state.Building f.worker
+      into : (hops : List WHop) → state_of names (name.Group hops) ≡ state.Building f.worker → state_of names' (name.Group hops) ≡ state.Building f.worker
       into hops h =
           let s = subst (SharedStands plan m (owner.Group hops)) h (known.names_known.shared (owner.Group hops) tt).stands in
           let other : f.worker ≡ w → ⊥ = λ e. apart (sym worker ∙ e) in
           building_is plan is t sound' (owner.Group hops) f.worker s.0 (state_of names' (name.Group hops)) (known'.names_known.shared (owner.Group hops) tt).stands (aside.flights f.worker other ∙ s.1) (subst (λ d. HasChangeOf plan d (owner.Group hops)) (sym (aside.due f.worker other)) s.2) s.3
 
-      back : (hops : List Hop) → state_of names' (name.Group hops) ≡ state.Building f.worker → state_of names (name.Group hops) ≡ state.Building f.worker
+      back : (hops : List WHop) → state_of names' (name.Group hops) ≡ state.Building f.worker → state_of names (name.Group hops) ≡ state.Building f.worker
       back hops h =
           let s = subst (SharedStands plan t (owner.Group hops)) h (known'.names_known.shared (owner.Group hops) tt).stands in
           let other : f.worker ≡ w → ⊥ = λ e. apart (sym worker ∙ e) in

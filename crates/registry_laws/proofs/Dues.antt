@@ -1,7 +1,7 @@
 -- whether anything is due for an operation
 use Rattle.std.proofs.Common.{◌≡◌, ◌++◌, ◌∙◌, true, false, List, [], Option, None, Some, refl, ◌∷◌}
 use Rattle.table_schema.specs.Plan.{Ports}
-use Rattle.sai_types.specs.declared.hop.Hop.{Hop}
+use Rattle.sai_types.specs.declared.weight.WHop.{WHop}
 use Rattle.ref_counts.specs.Registry.{Names}
 use Rattle.orch_flight.specs.Operation.{Operation}
 use Rattle.registry_laws.specs.Flown.{due_for, group_to_build, group_to_take, whole_group}
@@ -15,7 +15,7 @@ nothing_before [] ys e = refl
 nothing_before (x ∷ xs) ys e = absurd cc
 
 -- a group that is to be built or taken away has changes
-no_group : (builds takes : Option (List Hop)) → whole_group builds takes ≡ [] → (builds ≡ None) × (takes ≡ None)
+no_group : (builds takes : Option (List WHop)) → whole_group builds takes ≡ [] → (builds ≡ None) × (takes ≡ None)
 no_group None None h = (refl, refl)
 no_group None (Some hops) h = absurd (first_some hops false h)
 no_group (Some hops) takes h = absurd (first_some hops true h)

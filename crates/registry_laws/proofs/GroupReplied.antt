@@ -3,7 +3,7 @@ use Rattle.std.proofs.Common.{arith, ◌≡◌, ◌⊎◌, ◌∷◌, ◌++◌, 
 use Rattle.std.proofs.lemmas.List.{append_assoc, length-append}
 use Rattle.std.proofs.lemmas.Option.{same_Some}
 use Rattle.table_schema.specs.Plan.{IsPlan, Ports}
-use Rattle.sai_types.specs.declared.hop.Hop.{Hop}
+use Rattle.sai_types.specs.declared.weight.WHop.{WHop}
 use Rattle.sai_types.specs.declared.ids.Rid.{Rid}
 use Rattle.sai_types.specs.declared.ids.Vid.{Vid}
 use Rattle.sai_types.specs.declared.thing.Thing.{Thing}
@@ -52,7 +52,7 @@ length_one : {X : Type 0} (xs : List X) (x : X) → length (xs ++ x ∷ []) ≡ 
 length_one xs x = let e = length-append xs (x ∷ []) in omega (arith, e)
 
 -- the changes of a group are of it
-group_own : (plan : Ports) (is : IsPlan plan) (hops : List Hop) (b : Bool) (c : Change) → IsIn c (first_group_due hops b) → IsOwnedBy plan (changed_name c) (owner.Group hops)
+group_own : (plan : Ports) (is : IsPlan plan) (hops : List WHop) (b : Bool) (c : Change) → IsIn c (first_group_due hops b) → IsOwnedBy plan (changed_name c) (owner.Group hops)
 group_own plan is hops true c h =
     let x = made_in (shared_things (owner.Group hops)) c h in
     subst (λ z. IsOwnedBy plan (changed_name z) (owner.Group hops)) (sym x.2) ((tabled plan is).shared (owner.Group hops) x.0 x.1)
@@ -226,7 +226,7 @@ module _ (plan : Ports) (is : IsPlan plan) (capacities : List ℕ) (m : Machine)
       built_now : group_to_build plan names' p ≡ None
       built_now = not_built plan names' later p (λ hops. (known_built.names_known.shared (owner.Group hops) tt).stands) (λ hops t other. none_of_group plan p.key (m.board.applied p.key) p.due t.0 (rest_order plan is (m.board.applied p.key) p (λ r e. sound.board.fit p.key r (inl e)) y.over.new y.rest) (subst (IsIn t.0) (due_now ∙ rest_own) t.1) (hops, t.2))
 
-      none_taken : (v : Option (List Hop)) → group_to_take p ≡ v → group_to_take p ≡ None
+      none_taken : (v : Option (List WHop)) → group_to_take p ≡ v → group_to_take p ≡ None
       none_taken None e = e
       none_taken (Some hops) e =
           let retires = taken_group p.retires hops e in

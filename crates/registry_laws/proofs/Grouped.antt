@@ -10,6 +10,7 @@ use Rattle.table_schema.specs.declared.row.Row.TheVariants as row
 use Rattle.table_schema.specs.declared.row.RouteRow.TheVariants as route
 use Rattle.table_schema.specs.declared.row_hop.RowHop.{RowHop}
 use Rattle.sai_types.specs.declared.hop.Hop.{Hop}
+use Rattle.sai_types.specs.declared.weight.WHop.{WHop}
 use Rattle.sai_types.specs.declared.thing.Thing.{Thing}
 use Rattle.sai_types.specs.declared.thing.Thing.TheVariants as thing
 use Rattle.sai_types.specs.Alike.{IsIn}
@@ -53,17 +54,17 @@ board_nothing plan capacities = record {
 
 -- ---- the group of an operation
 
-pub group_is_in : (os : List Owner) (hops : List Hop) → group_in os ≡ Some hops → IsIn (owner.Group hops) os
+pub group_is_in : (os : List Owner) (hops : List WHop) → group_in os ≡ Some hops → IsIn (owner.Group hops) os
 group_is_in [] hops h = not_some hops h
 group_is_in (owner.OfRow k ∷ os) hops h = inr (group_is_in os hops h)
 group_is_in (owner.Bridge lane ∷ os) hops h = inr (group_is_in os hops h)
 group_is_in (owner.Own ip ∷ os) hops h = inr (group_is_in os hops h)
 group_is_in (owner.Group other ∷ os) hops h = inl (ap owner.Group (sym (same_Some other hops h)))
 
-pub built_use : (plan : Ports) (names : Names) (f : Operation) (hops : List Hop) → group_to_build plan names f ≡ Some hops → IsIn (owner.Group hops) (uses_of plan f.key f.new)
+pub built_use : (plan : Ports) (names : Names) (f : Operation) (hops : List WHop) → group_to_build plan names f ≡ Some hops → IsIn (owner.Group hops) (uses_of plan f.key f.new)
 built_use plan names f hops h = group_is_in (uses_of plan f.key f.new) hops (built_state names f.worker (group_in (uses_of plan f.key f.new)) hops h).0
 
-pub taken_group : (x : Option Owner) (hops : List Hop) → group_in (to_list x) ≡ Some hops → x ≡ Some (owner.Group hops)
+pub taken_group : (x : Option Owner) (hops : List WHop) → group_in (to_list x) ≡ Some hops → x ≡ Some (owner.Group hops)
 taken_group None hops h = not_some hops h
 taken_group (Some o) hops h = by (group_is_in (o ∷ []) hops h)
   where
@@ -81,14 +82,14 @@ all_those f (x ∷ xs) h =
     ap (λ o. length (those (o ∷ map f xs))) first.1 ∙ ap suc rest
 
 module _ (plan : Ports) (is : IsPlan plan) where
-  on_interface : (rows : List RowHop) (hops : List Hop) → hops_of plan rows ≡ Some hops → (hop : Hop) → IsIn hop hops → (q : Key) × (option_map (λ n. key.Neigh n hop.ip) (interface_on plan hop.on) ≡ Some q)
+  on_interface : (rows : List (RowHop × ℕ)) (hops : List WHop) → hops_of plan rows ≡ Some hops → (hop : WHop) → IsIn hop hops → (q : Key) × (option_map (λ n. key.Neigh n hop.hop.ip) (interface_on plan hop.hop.on) ≡ Some q)
   on_interface rows hops e hop i =
-      let x = hop_from plan rows hops hop e i in
-      let b = mapped (λ b. record { on = b; ip = x.0.ip }) (base_of plan x.0.on) hop x.2 in
-      let on : b.0 ≡ hop.on = ap (λ (z : Hop). z.on) b.2 in
-      (key.Neigh x.0.on hop.ip, ap (option_map (λ n. key.Neigh n hop.ip)) (subst (λ z. interface_on plan z ≡ Some x.0.on) on (interface_by plan is x.0.on b.0 b.1)))
+      let (h, in_it, at) = hop_from plan rows hops hop e i in
+      let b = mapped (λ b. record { on = b; ip = h.0.ip }) (base_of plan h.0.on) hop.hop at in
+      let on : b.0 ≡ hop.hop.on = ap (λ (z : Hop). z.on) b.2 in
+      (key.Neigh h.0.on hop.hop.ip, ap (option_map (λ n. key.Neigh n hop.hop.ip)) (subst (λ z. interface_on plan z ≡ Some h.0.on) on (interface_by plan is h.0.on b.0 b.1)))
 
-  hops_on : (k : Key) (r : Row) (hops : List Hop) → IsIn (owner.Group hops) (uses plan k r) → (hop : Hop) → IsIn hop hops → (q : Key) × (option_map (λ n. key.Neigh n hop.ip) (interface_on plan hop.on) ≡ Some q)
+  hops_on : (k : Key) (r : Row) (hops : List WHop) → IsIn (owner.Group hops) (uses plan k r) → (hop : WHop) → IsIn hop hops → (q : Key) × (option_map (λ n. key.Neigh n hop.hop.ip) (interface_on plan hop.hop.on) ≡ Some q)
   hops_on (key.Route prefix) (row.Route (route.Hops rows)) hops h =
       let x = group_use (owner.Group hops) (hops_of plan rows) h in
       let same : hops ≡ x.0 = cc in
@@ -105,11 +106,11 @@ takes_something : {X : Type 0} (ts : List Thing) (t : Thing) → take_all (ts ++
 takes_something [] t h = absurd cc
 takes_something (x ∷ ts) t h = absurd cc
 
-pub first_some : (hops : List Hop) (b : Bool) → first_group_due hops b ≡ [] → ⊥
+pub first_some : (hops : List WHop) (b : Bool) → first_group_due hops b ≡ [] → ⊥
 first_some hops true h = cc
 first_some hops false h = takes_something (members_of hops hops) (thing.Group hops) h
 
-module _ (plan : Ports) (names : Names) (f : Operation) (w : ℕ) (worker : f.worker ≡ w) (hops : List Hop) where
+module _ (plan : Ports) (names : Names) (f : Operation) (w : ℕ) (worker : f.worker ≡ w) (hops : List WHop) where
   first_flown : (b : Bool) → ((b ≡ true) × (group_to_build plan names f ≡ Some hops)) ⊎ ((b ≡ false) × (group_to_take f ≡ Some hops)) → IsGroupOver plan (first_group plan w hops b) → IsGroupFlown plan names f (first_group plan w hops b)
   first_flown b is over = record {
     worker = sym worker;
@@ -160,7 +161,7 @@ module _ (plan : Ports) (capacities : List ℕ) (names : Names) (room : RoomStat
       flying v z (New e one) = subst (IsFlown plan names m v) (same_Some y z one) (subst (λ u. IsFlown plan names m u y) (sym e) now)
       flying v z (Old apart there) = board.flying v z there
 
-  pub builds_begun : (hops : List Hop) → x.group ≡ None → group_to_build plan names x.operation ≡ Some hops → KnowsBoard plan capacities names room (put w (Some (flown_as x.operation (Some (first_group plan w hops true)))) flown) m
+  pub builds_begun : (hops : List WHop) → x.group ≡ None → group_to_build plan names x.operation ≡ Some hops → KnowsBoard plan capacities names room (put w (Some (flown_as x.operation (Some (first_group plan w hops true)))) flown) m
   builds_begun hops none builds =
       board_grouped (first_group plan w hops true)
       (ap (λ g. left_of_group g (whole_group (group_to_build plan names x.operation) (group_to_take x.operation))) none ∙ ap (λ b. whole_group b (group_to_take x.operation)) builds)
@@ -169,9 +170,9 @@ module _ (plan : Ports) (capacities : List ℕ) (names : Names) (room : RoomStat
       over : length (neighbour_keys plan hops) ≡ length hops
       over =
           let used = use_row_in plan x.operation.key x.operation.new (owner.Group hops) (built_use plan names x.operation hops builds) in
-          all_those (λ (h : Hop). option_map (λ n. key.Neigh n h.ip) (interface_on plan h.on)) hops (hops_on plan was.over.plans x.operation.key used.0 hops used.2)
+          all_those (λ (h : WHop). option_map (λ n. key.Neigh n h.hop.ip) (interface_on plan h.hop.on)) hops (hops_on plan was.over.plans x.operation.key used.0 hops used.2)
 
-  pub takes_begun : (hops : List Hop) → x.group ≡ None → group_to_build plan names x.operation ≡ None → group_to_take x.operation ≡ Some hops → KnowsBoard plan capacities names room (put w (Some (flown_as x.operation (Some (first_group plan w hops false)))) flown) m
+  pub takes_begun : (hops : List WHop) → x.group ≡ None → group_to_build plan names x.operation ≡ None → group_to_take x.operation ≡ Some hops → KnowsBoard plan capacities names room (put w (Some (flown_as x.operation (Some (first_group plan w hops false)))) flown) m
   takes_begun hops none builds takes =
       board_grouped (first_group plan w hops false)
       (ap (λ g. left_of_group g (whole_group (group_to_build plan names x.operation) (group_to_take x.operation))) none ∙ ap (λ b. whole_group b (group_to_take x.operation)) builds ∙ ap (whole_group None) takes)

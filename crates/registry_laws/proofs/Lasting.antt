@@ -6,7 +6,7 @@ use Rattle.table_schema.specs.declared.key.Key.TheVariants as key
 use Rattle.table_schema.specs.declared.row.Row.{Row}
 use Rattle.table_schema.specs.declared.row.Row.TheVariants as row
 use Rattle.sai_types.specs.declared.hop.Base.{Base}
-use Rattle.sai_types.specs.declared.hop.Hop.{Hop}
+use Rattle.sai_types.specs.declared.weight.WHop.{WHop}
 use Rattle.sai_types.specs.declared.thing.Thing.{Thing}
 use Rattle.sai_types.specs.declared.thing.Thing.TheVariants as thing
 use Rattle.switch_model.specs.Things.{base_of, lane_of, members_of}
@@ -75,7 +75,7 @@ module _ (new : Option Row) where
   own_last plan k (Some a) None e = takes_last (going plan k a)
   own_last plan k (Some a) (Some r) e = own_sets_last plan k a r
 
-  members_last : (all hops : List Hop) (own : List Change) → AreLastMade own → AreLastMade (make_all (members_of all hops) own)
+  members_last : (all hops : List WHop) (own : List Change) → AreLastMade own → AreLastMade (make_all (members_of all hops) own)
   members_last all [] own h = h
   members_last all (hop ∷ hops) own h = (λ x. elim x [ ], members_last all hops own h)
 

@@ -8,7 +8,7 @@ use Rattle.table_schema.specs.declared.row.Row.TheVariants as row
 use Rattle.table_schema.specs.declared.row.RouteRow.{RouteRow}
 use Rattle.table_schema.specs.declared.row.RouteRow.TheVariants as route
 use Rattle.sai_types.specs.declared.hop.Base.{Base}
-use Rattle.sai_types.specs.declared.hop.Hop.{Hop}
+use Rattle.sai_types.specs.declared.weight.WHop.{WHop}
 use Rattle.sai_types.specs.declared.thing.Goal.{Goal}
 use Rattle.sai_types.specs.declared.thing.Goal.TheVariants as goal
 use Rattle.sai_types.specs.declared.thing.Thing.{Thing}
@@ -54,20 +54,20 @@ use Rattle.registry_laws.proofs.Sharing.{absent_first}
 
 -- ---- a route that comes to a group has a change of its own
 
-goal_is : (x : Option (List Hop)) (hops : List Hop) → IsIn (owner.Group hops) (group_by x) → goal_to x ≡ Some (goal.Group hops)
+goal_is : (x : Option (List WHop)) (hops : List WHop) → IsIn (owner.Group hops) (group_by x) → goal_to x ≡ Some (goal.Group hops)
 goal_is None hops h = elim h [ ]
 goal_is (Some []) hops h = elim h [ ]
 goal_is (Some (a ∷ [])) hops h = elim h [ ]
 goal_is (Some (a ∷ b ∷ rest)) hops (inl e) = let same : hops ≡ a ∷ b ∷ rest = cc in ap (λ z. Some (goal.Group z)) (sym same)
 goal_is (Some (a ∷ b ∷ rest)) hops (inr h) = elim h [ ]
 
-pub use_is : (x : Option (List Hop)) (hops : List Hop) → goal_to x ≡ Some (goal.Group hops) → IsIn (owner.Group hops) (group_by x)
+pub use_is : (x : Option (List WHop)) (hops : List WHop) → goal_to x ≡ Some (goal.Group hops) → IsIn (owner.Group hops) (group_by x)
 use_is None hops h = not_some (goal.Group hops) h
 use_is (Some []) hops h = not_some (goal.Group hops) h
 use_is (Some (a ∷ [])) hops h = absurd cc
 use_is (Some (a ∷ b ∷ rest)) hops h = let same : a ∷ b ∷ rest ≡ hops = cc in inl (ap owner.Group (sym same))
 
-route_use : (plan : Ports) (r : RouteRow) (hops : List Hop) → goal_of plan r ≡ Some (goal.Group hops) → IsIn (owner.Group hops) (route_uses plan r)
+route_use : (plan : Ports) (r : RouteRow) (hops : List WHop) → goal_of plan r ≡ Some (goal.Group hops) → IsIn (owner.Group hops) (route_uses plan r)
 route_use plan route.Drop hops h = absurd cc
 route_use plan (route.Direct n) hops h = by (base_of plan n) h
   where
@@ -83,7 +83,7 @@ set_some t u apart = by (same_thing t u) refl
     by true e h = apart (thing-exact t u e)
     by false e h = some_of_due (Set u) [] h
 
-module _ (plan : Ports) (hops : List Hop) where
+module _ (plan : Ports) (hops : List WHop) where
   -- the route's thing that points at the group, in the place of another
   route_some : (prefix : Prefix) (rows : Option Goal) → rows ≡ Some (goal.Group hops) → (old : Option Row) → ((a : Row) → old ≡ Some a → Fits plan (key.Route prefix) a) → (IsIn (owner.Group hops) (uses_of plan (key.Route prefix) old) → ⊥) → (r : RouteRow) → goal_of plan r ≡ rows → own_changes plan (key.Route prefix) old (Some (row.Route r)) ≡ [] → ⊥
   route_some prefix rows is None fits unused r e h = some_of_due (Make (thing.Route prefix (goal.Group hops))) [] (sym (ap (λ z. make_all (from z (λ g. thing.Route prefix g ∷ [])) []) (e ∙ is)) ∙ h)
@@ -158,7 +158,7 @@ module _ (plan : Ports) (is : IsPlan plan) (capacities : List ℕ) (m : Machine)
   in_order : AreInOrder plan k old own
   in_order = rest_order plan is old first old_fits begins.fit rest
 
-  stands : (hops : List Hop) → SharedStands plan later (owner.Group hops) (state_of names' (name.Group hops))
+  stands : (hops : List WHop) → SharedStands plan later (owner.Group hops) (state_of names' (name.Group hops))
   stands hops = (known'.names_known.shared (owner.Group hops) tt).stands
 
   -- ---- the group that it builds
@@ -170,7 +170,7 @@ module _ (plan : Ports) (is : IsPlan plan) (capacities : List ℕ) (m : Machine)
       by None e = not_some o e
       by (Some r) e = absent_first names (uses plan k r) o e
 
-  only_group : (hops : List Hop) → IsIn (owner.Group hops) (uses_of plan k new) → group_in (uses_of plan k new) ≡ Some hops
+  only_group : (hops : List WHop) → IsIn (owner.Group hops) (uses_of plan k new) → group_in (uses_of plan k new) ≡ Some hops
   only_group hops i = by (uses_short plan k new)
     where
       by : IsShort (uses_of plan k new) → group_in (uses_of plan k new) ≡ Some hops
@@ -181,7 +181,7 @@ module _ (plan : Ports) (is : IsPlan plan) (capacities : List ℕ) (m : Machine)
           one (inl same) = same
           one (inr none) = elim none [ ]
 
-  builds_group : (hops : List Hop) → builds ≡ Some (owner.Group hops) → group_to_build plan names' first ≡ Some hops
+  builds_group : (hops : List WHop) → builds ≡ Some (owner.Group hops) → group_to_build plan names' first ≡ Some hops
   builds_group hops e = ap (built_in names' w) (only_group hops (build_in (owner.Group hops) e).0) ∙ built_some names' w hops (building_is plan is later sound' (owner.Group hops) w f (state_of names' (name.Group hops)) (stands hops) here touched (λ none. not_some (owner.Group hops) none))
     where
       touched : HasChangeOf plan (later.due w) (owner.Group hops)
@@ -199,13 +199,13 @@ module _ (plan : Ports) (is : IsPlan plan) (capacities : List ℕ) (m : Machine)
   group_is (Some (owner.Group hops)) e = ap (λ z. whole_group z None) (builds_group hops e)
 
   -- and it has changes of its own after it
-  has_own : (hops : List Hop) → group_to_build plan names' first ≡ Some hops → own ≡ [] → ⊥
+  has_own : (hops : List WHop) → group_to_build plan names' first ≡ Some hops → own ≡ [] → ⊥
   has_own hops h none = by builds refl
     where
       nothing : group_built builds ≡ [] → ⊥
       nothing e = never_none hops (sym h ∙ builds_none e)
 
-      by_row : (group : List Hop) → builds ≡ Some (owner.Group group) → (x : Option Row) → new ≡ x → ⊥
+      by_row : (group : List WHop) → builds ≡ Some (owner.Group group) → (x : Option Row) → new ≡ x → ⊥
       by_row group e None is_new = not_some (owner.Group group) (sym (ap (to_build plan names k) is_new) ∙ e)
       by_row group e (Some r) is_new =
           let b = build_in (owner.Group group) e in

@@ -7,6 +7,7 @@ use Rattle.table_schema.specs.declared.row.Row.{Row}
 use Rattle.table_schema.specs.declared.row.Row.TheVariants as row
 use Rattle.sai_types.specs.declared.hop.Base.{Base}
 use Rattle.sai_types.specs.declared.hop.Hop.{Hop}
+use Rattle.sai_types.specs.declared.weight.WHop.{WHop}
 use Rattle.sai_types.specs.declared.thing.Thing.{Thing}
 use Rattle.sai_types.specs.declared.thing.Thing.TheVariants as thing
 use Rattle.sai_types.specs.Alike.{IsIn}
@@ -150,7 +151,7 @@ module _ (plan : Ports) (is : IsPlan plan) where
 
   module _ (k : Key) (old : Option Row) where
     -- what is of a bridge port or an own address is of no row and no group
-    shared_made : (o : Owner) (t : Thing) (own : List Change) → IsShared o → IsOwnedBy plan (name_of t) o → ((hops : List Hop) → o ≡ owner.Group hops → ⊥) → AreInOrder plan k old own → AreInOrder plan k old (Make t ∷ own)
+    shared_made : (o : Owner) (t : Thing) (own : List Change) → IsShared o → IsOwnedBy plan (name_of t) o → ((hops : List WHop) → o ≡ owner.Group hops → ⊥) → AreInOrder plan k old own → AreInOrder plan k old (Make t ∷ own)
     shared_made o t own shared its apart h = (
       (λ g. apart g.0 (one_owner plan (name_of t) o (owner.Group g.0) its g.1)),
       (λ of. absurd (shared_row o k shared (one_owner plan (name_of t) o (owner.OfRow k) its of))),

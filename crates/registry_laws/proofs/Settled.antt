@@ -2,7 +2,7 @@
 use Rattle.std.proofs.Common.{◌≡◌, ◌⊎◌, ◌∷◌, ◌++◌, ◌∙◌, inl, inr, ℕ, List, [], Option, None, Some, refl, sym, ap, subst}
 use Rattle.std.proofs.lemmas.Option.{same_Some}
 use Rattle.table_schema.specs.Plan.{IsPlan, Ports}
-use Rattle.sai_types.specs.declared.hop.Hop.{Hop}
+use Rattle.sai_types.specs.declared.weight.WHop.{WHop}
 use Rattle.sai_types.specs.declared.thing.Thing.TheVariants as thing
 use Rattle.sai_types.specs.Alike.{IsIn}
 use Rattle.sai_types.specs.Names.{name_of}
@@ -101,10 +101,10 @@ group_of (owner.Own ip) = refl
 group_of (owner.Group hops) = refl
 
 -- no group is built where no change of one is due
-pub not_built : (plan : Ports) (names : registry.Names) (m : Machine) (p : Operation) → ((hops : List Hop) → SharedStands plan m (owner.Group hops) (state_of names (name.Group hops))) → ((hops : List Hop) → HasChangeOf plan (m.due p.worker) (owner.Group hops) → ((f : MachineFlight) → m.board.flights p.worker ≡ Some f → f.retires ≡ Some (owner.Group hops) → ⊥) → ⊥) → group_to_build plan names p ≡ None
+pub not_built : (plan : Ports) (names : registry.Names) (m : Machine) (p : Operation) → ((hops : List WHop) → SharedStands plan m (owner.Group hops) (state_of names (name.Group hops))) → ((hops : List WHop) → HasChangeOf plan (m.due p.worker) (owner.Group hops) → ((f : MachineFlight) → m.board.flights p.worker ≡ Some f → f.retires ≡ Some (owner.Group hops) → ⊥) → ⊥) → group_to_build plan names p ≡ None
 not_built plan names m p stands none = by (group_in (uses_of plan p.key p.new))
   where
-    by : (x : Option (List Hop)) → built_in names p.worker x ≡ None
+    by : (x : Option (List WHop)) → built_in names p.worker x ≡ None
     by None = refl
     by (Some hops) = built_none names p.worker hops (λ h. let s = subst (SharedStands plan m (owner.Group hops)) h (stands hops) in none hops s.2 (λ f at e. s.3 (subst (λ (z : MachineFlight). z.retires ≡ Some (owner.Group hops)) (same_Some f s.0 (sym at ∙ s.1)) e)))
 
@@ -175,7 +175,7 @@ module _ (plan : Ports) (is : IsPlan plan) (capacities : List ℕ) (m : Machine)
     no_group : group_to_build plan names p ≡ None
     no_group = by (group_to_build plan names p) refl
       where
-        by : (x : Option (List Hop)) → group_to_build plan names p ≡ x → group_to_build plan names p ≡ None
+        by : (x : Option (List WHop)) → group_to_build plan names p ≡ x → group_to_build plan names p ≡ None
         by None e = e
         by (Some hops) e = absurd (y.later hops e none)
 
@@ -217,7 +217,7 @@ module _ (plan : Ports) (is : IsPlan plan) (capacities : List ℕ) (m : Machine)
       group = λ g h. not_some g h;
     }
       where
-        only : (hops : List Hop) → HasChangeOf plan (gone.due w) (owner.Group hops) → Some o ≡ Some (owner.Group hops)
+        only : (hops : List WHop) → HasChangeOf plan (gone.due w) (owner.Group hops) → Some o ≡ Some (owner.Group hops)
         only hops (c, i, own) = ap Some (one_owner plan (changed_name c) o (owner.Group hops) (parting.removals_of plan is o c (subst (IsIn c) due_gone i)) own)
 
         not_now : group_to_build plan names_left (after (Some o)) ≡ None

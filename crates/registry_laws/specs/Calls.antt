@@ -37,7 +37,7 @@ ids_of_body (body.OwnAddress ip) = []
 ids_of_body (body.Neighbor v ip mac) = v ∷ []
 ids_of_body (body.NextHop v ip) = v ∷ []
 ids_of_body body.Group = []
-ids_of_body (body.GroupMember v u) = v ∷ u ∷ []
+ids_of_body (body.GroupMember v u weight) = v ∷ u ∷ []
 ids_of_body (body.Route prefix target) = ids_of_target target
 
 abbrev pub ids_of_entry : Entry Vid → List Vid

@@ -1,7 +1,7 @@
 -- What a worker has under way, and what is due for it. Own.
 use Rattle.std.specs.Prelude.{◌==◌, ◌++◌, ℕ, Bool, true, false, List, [], ◌∷◌, Option, Some, None, is_some, not, if◌then◌else◌}
 use Rattle.table_schema.specs.Plan.{Ports}
-use Rattle.sai_types.specs.declared.hop.Hop.{Hop}
+use Rattle.sai_types.specs.declared.weight.WHop.{WHop}
 use Rattle.row_layout.specs.Operations.{Change, uses_of}
 use Rattle.row_layout.specs.Rows.{Group, Owner}
 use Rattle.switch_machine.specs.Flights.{MachineFlight}
@@ -23,7 +23,7 @@ abbrev pub flight_of : Operation → MachineFlight
 flight_of f = record { key = f.key; new = f.new; leaves = f.leaves; retires = f.retires; goes = not (is_some f.new) }
 
 -- the group among what is shared
-abbrev pub group_in : List Owner → Option (List Hop)
+abbrev pub group_in : List Owner → Option (List WHop)
 group_in [] = None
 group_in (Group hops ∷ os) = Some hops
 group_in (o ∷ os) = group_in os
@@ -32,18 +32,18 @@ abbrev pub is_built_by : ℕ → NameState → Bool
 is_built_by worker (state.Building other) = other == worker
 is_built_by worker _ = false
 
-abbrev pub built_in : Names → ℕ → Option (List Hop) → Option (List Hop)
+abbrev pub built_in : Names → ℕ → Option (List WHop) → Option (List WHop)
 built_in names worker None = None
 built_in names worker (Some hops) = if is_built_by worker (state_of names (name.Group hops)) then Some hops else None
 
 -- the group that the worker builds for the new row, and the one that it takes away
-abbrev pub group_to_build : Ports → Names → Operation → Option (List Hop)
+abbrev pub group_to_build : Ports → Names → Operation → Option (List WHop)
 group_to_build plan names f = built_in names f.worker (group_in (uses_of plan f.key f.new))
 
-abbrev pub group_to_take : Operation → Option (List Hop)
+abbrev pub group_to_take : Operation → Option (List WHop)
 group_to_take f = group_in (to_list f.retires)
 
-abbrev pub whole_group : Option (List Hop) → Option (List Hop) → List Change
+abbrev pub whole_group : Option (List WHop) → Option (List WHop) → List Change
 whole_group (Some hops) other = first_group_due hops true
 whole_group None (Some hops) = first_group_due hops false
 whole_group None None = []

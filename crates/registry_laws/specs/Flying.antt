@@ -4,7 +4,7 @@ use Rattle.table_schema.specs.Fields.{HasRisingKeys}
 use Rattle.table_schema.specs.Plan.{Ports}
 use Rattle.table_schema.specs.declared.key.Key.{Key}
 use Rattle.table_schema.specs.declared.row.Row.{Row}
-use Rattle.sai_types.specs.declared.hop.Hop.{Hop}
+use Rattle.sai_types.specs.declared.weight.WHop.{WHop}
 use Rattle.sai_types.specs.declared.thing.Thing.{Thing}
 use Rattle.sai_types.specs.Alike.{IsIn}
 use Rattle.sai_types.specs.Names.{name_of}
@@ -76,7 +76,7 @@ pub record IsFlown (plan : Ports) (names : Names) (m : Machine) (w : ℕ) (x : F
   pub between : IsBetween (m.board.applied x.operation.key) x.operation.new x.operation.now
   pub standing : HasStanding plan m x.operation
   -- after the group that it builds it has changes of its own
-  pub later : (hops : List Hop) → group_to_build plan names x.operation ≡ Some hops → x.operation.due ≡ [] → ⊥
+  pub later : (hops : List WHop) → group_to_build plan names x.operation ≡ Some hops → x.operation.due ≡ [] → ⊥
   pub group : (g : GroupOperation) → x.group ≡ Some g → IsGroupFlown plan names x.operation g
 
 abbrev pub flown_as : Operation → Option GroupOperation → Flown

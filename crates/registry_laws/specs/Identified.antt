@@ -1,7 +1,7 @@
 -- When the registry's identifiers are those of the objects that stand. Own.
 use Rattle.std.specs.Prelude.{◌≡◌, ◌⊎◌, ◌++◌, ℕ, suc, true, List, [], length, Option, Some, None}
 use Rattle.table_schema.specs.Plan.{Ports}
-use Rattle.sai_types.specs.declared.hop.Hop.{Hop}
+use Rattle.sai_types.specs.declared.weight.WHop.{WHop}
 use Rattle.sai_types.specs.declared.ids.Rid.{Rid}
 use Rattle.sai_types.specs.declared.ids.Vid.{Vid}
 use Rattle.sai_types.specs.declared.thing.PortThing.{PortThing}
@@ -68,7 +68,7 @@ HoldsPort plan m f = (p : PortThing) → IsIn (thing.Port p) (own_of plan f.key 
 
 -- a group's name has no identifier, or one of the group and one of each member
 pub record HasWholeGroups (names : Names) : Type 0 where
-  pub each : (hops : List Hop) → (ids_of names (name.Group hops) ≡ []) ⊎ (length (ids_of names (name.Group hops)) ≡ suc (length hops))
+  pub each : (hops : List WHop) → (ids_of names (name.Group hops) ≡ []) ⊎ (length (ids_of names (name.Group hops)) ≡ suc (length hops))
 
 -- ---- what keeps identifiers
 

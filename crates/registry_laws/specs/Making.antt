@@ -2,7 +2,7 @@
 use Rattle.std.specs.Prelude.{◌≡◌, ℕ, Bool, true, false, List, [], ◌∷◌, Option, Some, None, if◌then◌else◌}
 use Rattle.table_schema.specs.Plan.{Ports}
 use Rattle.sai_types.specs.declared.body.Call.{Call}
-use Rattle.sai_types.specs.declared.hop.Hop.{Hop}
+use Rattle.sai_types.specs.declared.weight.WHop.{WHop}
 use Rattle.sai_types.specs.declared.ids.Vid.{Vid}
 use Rattle.row_layout.specs.Operations.{Change}
 use Rattle.ref_counts.specs.declared.next.Next.TheVariants as next
@@ -14,7 +14,7 @@ use Rattle.orch_flight.specs.Taking.{IsTook, MayTake}
 use Rattle.registry_laws.specs.Flown.{Flown, group_to_build, group_to_take}
 
 -- the operation of a group that is due begins
-abbrev pub group_begun : Ports → ℕ → Option (List Hop) → Option (List Hop) → Option GroupOperation
+abbrev pub group_begun : Ports → ℕ → Option (List WHop) → Option (List WHop) → Option GroupOperation
 group_begun plan worker (Some hops) other = Some (first_group plan worker hops true)
 group_begun plan worker None (Some hops) = Some (first_group plan worker hops false)
 group_begun plan worker None None = None

@@ -7,7 +7,7 @@ ghost use Rattle.table_schema.specs.declared.row.Row.{Row};
 ghost use Rattle.switch_model.specs.Desired.{have_rows};
 ghost use Rattle.sai_types.specs.Alike.{IsIn};
 ghost use Rattle.sai_types.specs.Names.{name_of};
-ghost use Rattle.sai_types.specs.declared.hop.Hop.{Hop};
+ghost use Rattle.sai_types.specs.declared.weight.WHop.{WHop};
 ghost use Rattle.sai_types.specs.declared.ids.Rid.{Rid};
 ghost use Rattle.sai_types.specs.declared.ids.Vid.{Vid};
 ghost use Rattle.sai_types.specs.declared.thing.Thing.{Thing};
@@ -62,8 +62,8 @@ pub fn begins_are_known()
 
 /// The operation of a group begins, with no event: the one that the worker is to build, or else the one that it takes away.
 pub fn groups_begin()
-    ensures builds { (plan : Ports) (capacities : List ℕ) (names : Names) (room : RoomState) (flown : ℕ → Option Flown) (m : Machine) (w : ℕ) (x : Flown) (hops : List Hop) → KnowsBoard plan capacities names room flown m → flown w ≡ Some x → x.group ≡ None → group_to_build plan names x.operation ≡ Some hops → KnowsBoard plan capacities names room (put w (Some (flown_as x.operation (Some (first_group plan w hops true)))) flown) m }
-    ensures takes { (plan : Ports) (capacities : List ℕ) (names : Names) (room : RoomState) (flown : ℕ → Option Flown) (m : Machine) (w : ℕ) (x : Flown) (hops : List Hop) → KnowsBoard plan capacities names room flown m → flown w ≡ Some x → x.group ≡ None → group_to_build plan names x.operation ≡ None → group_to_take x.operation ≡ Some hops → KnowsBoard plan capacities names room (put w (Some (flown_as x.operation (Some (first_group plan w hops false)))) flown) m }
+    ensures builds { (plan : Ports) (capacities : List ℕ) (names : Names) (room : RoomState) (flown : ℕ → Option Flown) (m : Machine) (w : ℕ) (x : Flown) (hops : List WHop) → KnowsBoard plan capacities names room flown m → flown w ≡ Some x → x.group ≡ None → group_to_build plan names x.operation ≡ Some hops → KnowsBoard plan capacities names room (put w (Some (flown_as x.operation (Some (first_group plan w hops true)))) flown) m }
+    ensures takes { (plan : Ports) (capacities : List ℕ) (names : Names) (room : RoomState) (flown : ℕ → Option Flown) (m : Machine) (w : ℕ) (x : Flown) (hops : List WHop) → KnowsBoard plan capacities names room flown m → flown w ≡ Some x → x.group ≡ None → group_to_build plan names x.operation ≡ None → group_to_take x.operation ≡ Some hops → KnowsBoard plan capacities names room (put w (Some (flown_as x.operation (Some (first_group plan w hops false)))) flown) m }
 {}
 
 /// The answer of the call that is due next may be taken, of the group while one is under way, and else of the row; and what the

@@ -8,7 +8,7 @@ ghost use Rattle.sai_types.specs.declared.body.Body.{Body};
 ghost use Rattle.sai_types.specs.declared.body.Call.{Call};
 ghost use Rattle.sai_types.specs.declared.body.Call.TheVariants as call;
 ghost use Rattle.sai_types.specs.declared.body.Entry.TheVariants as entry;
-ghost use Rattle.sai_types.specs.declared.hop.Hop.{Hop};
+ghost use Rattle.sai_types.specs.declared.weight.WHop.{WHop};
 ghost use Rattle.sai_types.specs.declared.ids.Rid.{Rid};
 ghost use Rattle.sai_types.specs.declared.ids.Vid.{Vid};
 ghost use Rattle.sai_types.specs.declared.thing.Thing.{Thing};
@@ -107,7 +107,7 @@ pub fn names_keep_identifiers()
     ensures started { (plan : Ports) (names : Names) (rid : Vid → Option Rid) (flown : ℕ → Option Flown) (stands : List (Rid × Thing)) (w : ℕ) (k : Key) (old : Option Row) (new : Option Row) → IsPlan plan → MayStart plan names w k old new → Identified plan names rid flown stands → Identified plan (started_names plan names w k old new) rid flown stands }
     ensures left { (plan : Ports) (names : Names) (rid : Vid → Option Rid) (flown : ℕ → Option Flown) (stands : List (Rid × Thing)) (w : ℕ) (k : Key) (o : Owner) → state_of names (name_for o) ≡ state.Live → Identified plan names rid flown stands → Identified plan (left_names names w k o) rid flown stands }
     ensures ended { (plan : Ports) (m : Machine) (names : Names) (rid : Vid → Option Rid) (flown : ℕ → Option Flown) (w : ℕ) (f : MachineFlight) (old : Option Row) → IsConsistent plan m → Ends m w f → Identified plan names rid flown m.stands → Identified plan (ended_names names w f.key old f.new) rid flown m.stands }
-    ensures begun { (plan : Ports) (names : Names) (rid : Vid → Option Rid) (flown : ℕ → Option Flown) (stands : List (Rid × Thing)) (w : ℕ) (x : Flown) (hops : List Hop) (builds : Bool) → flown w ≡ Some x → x.group ≡ None → Identified plan names rid flown stands → Identified plan names rid (put w (Some (record { operation = x.operation; group = Some (first_group plan w hops builds) })) flown) stands × (builds ≡ true → IsPartlyBuilt (first_group plan w hops builds)) }
+    ensures begun { (plan : Ports) (names : Names) (rid : Vid → Option Rid) (flown : ℕ → Option Flown) (stands : List (Rid × Thing)) (w : ℕ) (x : Flown) (hops : List WHop) (builds : Bool) → flown w ≡ Some x → x.group ≡ None → Identified plan names rid flown stands → Identified plan names rid (put w (Some (record { operation = x.operation; group = Some (first_group plan w hops builds) })) flown) stands × (builds ≡ true → IsPartlyBuilt (first_group plan w hops builds)) }
     ensures same { (plan : Ports) (names : Names) (names' : Names) (rid : Vid → Option Rid) (flown : ℕ → Option Flown) (stands : List (Rid × Thing)) → HaveSameIds names names' → Identified plan names rid flown stands → Identified plan names' rid flown stands }
     ensures flown { (plan : Ports) (names : Names) (rid : Vid → Option Rid) (flown : ℕ → Option Flown) (flown' : ℕ → Option Flown) (stands : List (Rid × Thing)) → KeepsBuilds flown flown' → Identified plan names rid flown stands → Identified plan names rid flown' stands }
     ensures tied { (plan : Ports) (names : Names) (rid : Vid → Option Rid) (rid' : Vid → Option Rid) (flown : ℕ → Option Flown) (stands : List (Rid × Thing)) (stands' : List (Rid × Thing)) → ((j : Rid) (t : Thing) → IsIn (j, t) stands' → (i : Rid) × IsIn (i, t) stands × ((v : Vid) → rid v ≡ Some i → rid' v ≡ Some j)) → Identified plan names rid flown stands → Identified plan names rid' flown stands' }

@@ -1,5 +1,5 @@
 -- the calls of a plan, hitless or cold, from a chip that was listed lead to the things of the view
-use Rattle.std.proofs.Common.{◌≡◌, ◌+◌, ◌⊎◌, ◌++◌, ◌≤◌, ◌∷◌, inl, inr, ℕ, length, true, List, [], refl, sym, ap, subst}
+use Rattle.std.proofs.Common.{◌≡◌, ◌+◌, ◌++◌, ◌≤◌, ◌∷◌, inl, inr, ℕ, length, true, List, [], refl, sym, ap, subst}
 use Rattle.std.proofs.lemmas.List.{append-nil}
 use Rattle.table_schema.specs.Plan.{Ports, IsPlan}
 use Rattle.sai_types.specs.declared.ids.Rid.{Rid}
@@ -8,6 +8,7 @@ use Rattle.sai_types.specs.Refusal.{capacity_of}
 use Rattle.sai_types.specs.declared.body.Body.{Body}
 use Rattle.sai_types.specs.declared.body.Body.TheVariants as body
 use Rattle.sai_types.specs.declared.body.Call.{Call}
+use Rattle.sai_types.specs.declared.thing.PortThing.{PortThing}
 use Rattle.sai_types.specs.declared.thing.Thing.{Thing}
 use Rattle.sai_types.specs.declared.thing.Thing.TheVariants as thing
 use Rattle.sai_types.specs.After.{after_calls}
@@ -15,7 +16,7 @@ use Rattle.sai_types.specs.Alike.{IsIn}
 use Rattle.sai_types.specs.Made.{AreLegal, has_first, made_after_all}
 use Rattle.sai_types.specs.Named.{first_lane}
 use Rattle.sai_types.specs.Names as name
-use Rattle.sai_types.specs.Names.{ShareLane, name_of}
+use Rattle.sai_types.specs.Names.{Overlap, name_of}
 use Rattle.sai_types.specs.Objects.{Objects}
 use Rattle.chip_layout.specs.Answered.{HasPrefix}
 use Rattle.chip_layout.specs.Layout.{IsLaidOut, Layout, listed, with_changed}
@@ -27,7 +28,8 @@ use Rattle.plan_laws.specs.Applied.{AppliesCold, AppliesHitless, IsListedChip, I
 use Rattle.plan_laws.specs.Moments.{attr_place, MakesChange, MakesChanges, SetsThing, layout_after}
 use Rattle.plan_laws.specs.Old.{old_layout, old_things, tag_of}
 use Rattle.plan_laws.specs.Plans.{PlanChange, Make, Set, Remove}
-use Rattle.plan_laws.specs.Views.{LanesApart, made_names}
+use Rattle.plan_laws.specs.Views.{made_names}
+use Rattle.plan_laws.proofs.Apart.{PortsApart, lanes-new, lanes-old}
 use Rattle.plan_laws.proofs.Applied.{hitless-end, plan-safe}
 use Rattle.plan_laws.proofs.Cold.{cold-end, cold-legal, makes-safe}
 use Rattle.plan_laws.proofs.Rooms.{fits-room}
@@ -106,7 +108,7 @@ module _ (plan : Ports) (is : IsPlan plan) {capacities : List ℕ} {made : ℕ} 
   lane_by (body.Neighbor v w x) h = refl
   lane_by (body.NextHop v w) h = refl
   lane_by body.Group h = refl
-  lane_by (body.GroupMember v w) h = refl
+  lane_by (body.GroupMember v w n) h = refl
   lane_by (body.Route v w) h = refl
 
   prefix_by : (b : Body Rid) → IsPlannedBody plan b → HasPrefix b
@@ -120,7 +122,7 @@ module _ (plan : Ports) (is : IsPlan plan) {capacities : List ℕ} {made : ℕ} 
   prefix_by (body.Neighbor v w x) h = tt
   prefix_by (body.NextHop v w) h = tt
   prefix_by body.Group h = tt
-  prefix_by (body.GroupMember v w) h = tt
+  prefix_by (body.GroupMember v w n) h = tt
 
   pub chip-listed : IsListedChip made objects
   chip-listed = record {
@@ -129,10 +131,8 @@ module _ (plan : Ports) (is : IsPlan plan) {capacities : List ℕ} {made : ℕ} 
     prefixes = record { each = λ e b h. prefix_by b (chip.planned e b h) };
   }
 
-  lanes_by : (t u : Thing) → IsPlannedThing plan t → IsPlannedThing plan u → ShareLane t u → name_of t ≡ name_of u
-  lanes_by (thing.Port p) (thing.Port q) x y share =
-      ap (λ (l : List ℕ). name.Port (first_lane l)) (lanes_name plan is p.lanes q.lanes x y (λ a b ha hb. one-planned plan a b p.lanes q.lanes is ha hb share))
-  lanes_by t u x y share = elim share [ ]
+  lanes_by : (p q : PortThing) → IsPlannedThing plan (thing.Port p) → IsPlannedThing plan (thing.Port q) → Overlap (thing.Port p) (thing.Port q) → name_of (thing.Port p) ≡ name_of (thing.Port q)
+  lanes_by p q x y share = ap (λ (l : List ℕ). name.Port (first_lane l)) (lanes_name plan is p.lanes q.lanes x y (λ a b ha hb. one-planned plan a b p.lanes q.lanes is ha hb share))
 
   module _ (new : List Thing) (new_planned : (t : Thing) → IsIn t new → IsPlannedThing plan t) (view : IsView new) where
     listed_planned : (t : Thing) → IsIn t (old_things objects new) → IsPlannedThing plan t
@@ -141,12 +141,8 @@ module _ (plan : Ports) (is : IsPlan plan) {capacities : List ℕ} {made : ℕ} 
         let s = x.1 in
         by-body plan (old_layout objects new) t s.body (body-seen (tag_of objects new) made objects chip.whole s.entry s.body t s.found s.thing) (chip.planned s.entry s.body s.found)
 
-    apart_from : (old : List Thing) → ((t : Thing) → IsIn t old → IsPlannedThing plan t) → LanesApart old new
-    apart_from old old_planned = record { apart = λ t u i h share. lanes_by t u (new_planned t i) (either u h) share }
-      where
-        either : (u : Thing) → IsIn u old ⊎ IsIn u new → IsPlannedThing plan u
-        either u (inl h) = old_planned u h
-        either u (inr h) = new_planned u h
+    ports_apart : (others : List Thing) → ((t : Thing) → IsIn t others → IsPlannedThing plan t) → PortsApart new others
+    ports_apart others planned p q i j share = lanes_by p q (new_planned (thing.Port p) i) (planned (thing.Port q) j) share
 
     -- ---- a hitless plan
 
@@ -155,7 +151,7 @@ module _ (plan : Ports) (is : IsPlan plan) {capacities : List ℕ} {made : ℕ} 
       is-hitless = record {
         chip = chip-listed;
         view = view;
-        lanes = apart_from (old_things objects new) listed_planned;
+        lanes = lanes-old view chip-listed (ports_apart (old_things objects new) listed_planned) (ports_apart new new_planned);
         is_plan = x.is_plan;
         room = fits-room x.is_plan capacities objects x.fits;
       }
@@ -175,7 +171,7 @@ module _ (plan : Ports) (is : IsPlan plan) {capacities : List ℕ} {made : ℕ} 
     module _ (calls : List (Call Rid)) (x : PlansCold capacities made objects new calls) (fits : (kind : Kind) → length (made_names kind x.makes) ≤ capacity_of capacities kind) where
       pub applies-cold : AppliesCold capacities made objects new x.removes x.makes x.front x.rest
       applies-cold = record {
-        planned = record { chip = chip-listed; view = view; lanes = apart_from [] (λ t h. elim h [ ]); removing = x.removing; making = x.making; within = chip.fits; room = fits };
+        planned = record { chip = chip-listed; view = view; lanes = lanes-new view (ports_apart new new_planned); removing = x.removing; making = x.making; within = chip.fits; room = fits };
         removing = x.first;
         making = x.second;
       }

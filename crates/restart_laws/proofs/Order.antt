@@ -1,5 +1,5 @@
 -- what a row names comes before it in key order
-use Rattle.std.proofs.Common.{◌≡◌, ◌∷◌, ◌∙◌, inl, inr, List, [], map, sym, ap, Ordering}
+use Rattle.std.proofs.Common.{◌≡◌, ◌∷◌, ◌∙◌, inl, inr, ℕ, List, [], map, sym, ap, Ordering}
 use Rattle.std.specs.Ordering.{ordering_reverse}
 use Rattle.std.specs.List.{AllByRecursion}
 use Rattle.std.specs.List.Sorted.{IsStrictlySortedBy}
@@ -18,7 +18,7 @@ use Rattle.table_schema.proofs.Keys.{key_total}
 use Rattle.swss_types.specs.declared.address.Prefix.{Prefix}
 use Rattle.sai_types.specs.Alike.{IsIn}
 
-hop_key_below : (prefix : Prefix) (p : Key) (hops : List RowHop) → IsIn p (map (λ (h : RowHop). key.Neigh h.on h.ip) hops) → key_cmp p (key.Route prefix) ≡ Less
+hop_key_below : (prefix : Prefix) (p : Key) (hops : List (RowHop × ℕ)) → IsIn p (map (λ (h : RowHop × ℕ). key.Neigh h.0.on h.0.ip) hops) → key_cmp p (key.Route prefix) ≡ Less
 hop_key_below prefix p [] h = elim h [ ]
 hop_key_below prefix p (x ∷ xs) (inl e) = ap (λ z. key_cmp z (key.Route prefix)) e
 hop_key_below prefix p (x ∷ xs) (inr h) = hop_key_below prefix p xs h

@@ -14,7 +14,7 @@ use Rattle.table_schema.specs.declared.write.Write.{Write}
 use Rattle.swss_script.specs.Batch.{batch_of, key_in_word, write_before, write_in, writes_of_items}
 use Rattle.swss_script.specs.Built.{is_built}
 use Rattle.swss_script.specs.Fields.{fields_of}
-use Rattle.swss_script.specs.Line.{alone, del_line, del_with, forward_to, is_block, is_name, json_line, line_by, line_with, producer_line, script_line_of, set_line, set_with, show_line, show_of, shown}
+use Rattle.swss_script.specs.Line.{word_alone, del_line, del_with, forward_to, is_block, is_name, json_line, line_by, line_with, producer_line, script_line_of, set_line, set_with, show_line, show_of, shown}
 use Rattle.swss_script.specs.Lines.{block_of, ends_in, is_end, is_too_long, line_text, lines_in, text_of, with_byte, without_last, without_return}
 use Rattle.swss_script.specs.Script.{add, draft_step, draft_with_line, ended_in, if_built, in_block, in_section, new_draft, producer_named, round_settled, script_at, script_from, script_of, section_begun, step, with_block, with_text}
 use Rattle.swss_script.specs.Words.{behind_word, is_blank, from_word, words_in}
@@ -111,7 +111,7 @@ module _ (n : ℕ) where
   line-json [] text within = tt
   line-json (word ∷ words) text within = few-within (length text + 1) n (batch_of text) within (batch-few text)
 
-  line-alone : (line : Line) (words : List (List ℕ)) → IsFewLine n line → IsFewLine n (alone line words)
+  line-alone : (line : Line) (words : List (List ℕ)) → IsFewLine n line → IsFewLine n (word_alone line words)
   line-alone line [] few = few
   line-alone line (word ∷ words) few = tt
 

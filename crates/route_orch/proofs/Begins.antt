@@ -7,7 +7,7 @@ use Rattle.table_schema.specs.declared.key.Key.{Key}
 use Rattle.table_schema.specs.declared.key.Key.TheVariants as key
 use Rattle.table_schema.specs.declared.row.Row.{Row}
 use Rattle.table_schema.specs.declared.row.Row.TheVariants as row
-use Rattle.sai_types.specs.declared.hop.Hop.{Hop}
+use Rattle.sai_types.specs.declared.weight.WHop.{WHop}
 use Rattle.sai_types.specs.declared.thing.Thing.{Thing}
 use Rattle.sai_types.specs.declared.thing.Thing.TheVariants as thing
 use Rattle.sai_types.specs.declared.kind.Kind.TheVariants as kind
@@ -45,24 +45,24 @@ use Rattle.route_orch.proofs.Starts.{names-due}
 abbrev route_places : ℕ → List ℕ
 route_places n = 0 ∷ 0 ∷ 0 ∷ 0 ∷ 0 ∷ 0 ∷ 0 ∷ 0 ∷ 0 ∷ 0 ∷ n ∷ []
 
-abbrev group_places : List Hop → ℕ → List ℕ
+abbrev group_places : List WHop → ℕ → List ℕ
 group_places hops n = 0 ∷ 0 ∷ 0 ∷ 0 ∷ 0 ∷ 0 ∷ 0 ∷ 0 ∷ 1 ∷ length hops ∷ n ∷ []
 
-group_counted : (hops : List Hop) (n : ℕ) → 0 ∷ 0 ∷ 0 ∷ 0 ∷ 0 ∷ 0 ∷ 0 ∷ 0 ∷ 1 ∷ (0 + (length hops + 0)) ∷ n ∷ [] ≡ group_places hops n
+group_counted : (hops : List WHop) (n : ℕ) → 0 ∷ 0 ∷ 0 ∷ 0 ∷ 0 ∷ 0 ∷ 0 ∷ 0 ∷ 1 ∷ (0 + (length hops + 0)) ∷ n ∷ [] ≡ group_places hops n
 group_counted hops n = ap (λ m. 0 ∷ 0 ∷ 0 ∷ 0 ∷ 0 ∷ 0 ∷ 0 ∷ 0 ∷ 1 ∷ m ∷ n ∷ []) (omega arith)
 
-set_group : (hops : List Hop) (t u : Thing) → places_for (make_all (shared_things (Group hops)) (set_to t u [])) ≡ group_places hops 0
+set_group : (hops : List WHop) (t u : Thing) → places_for (make_all (shared_things (Group hops)) (set_to t u [])) ≡ group_places hops 0
 set_group hops t u =
     places-built hops (set_to t u [])
     ∙ (elim (same_thing t u) as (λ b. map (λ k. cond (level kind.Group == level k) 1 0 + (cond (level kind.GroupMember == level k) (length hops) 0 + makes k (if b then [] else Set u ∷ []))) all_kinds ≡ group_places hops 0) [ true ↦ group_counted hops 0 | false ↦ group_counted hops 0 ])
 
-by_state : (s : NameState) (hops : List Hop) (applied : Bool) (own : List Change) → places_for own ≡ route_places (if applied then 0 else 1) → places_for (make_all (shared_things (Group hops)) own) ≡ group_places hops (if applied then 0 else 1) → places_for (built_first (absent_or (Group hops) s None) own) ≡ places_needed (is_absent s) (Some (name.Group hops)) applied
+by_state : (s : NameState) (hops : List WHop) (applied : Bool) (own : List Change) → places_for own ≡ route_places (if applied then 0 else 1) → places_for (make_all (shared_things (Group hops)) own) ≡ group_places hops (if applied then 0 else 1) → places_for (built_first (absent_or (Group hops) s None) own) ≡ places_needed (is_absent s) (Some (name.Group hops)) applied
 by_state state.Absent hops applied own plain built = built
 by_state state.Live hops applied own plain built = plain
 by_state (state.Building w) hops applied own plain built = plain
 by_state (state.Retiring w) hops applied own plain built = plain
 
-by_group : (names : Names) (group : Option Name) (applied : Bool) (own : List Change) → AreGroups group → places_for own ≡ route_places (if applied then 0 else 1) → ((hops : List Hop) → places_for (make_all (shared_things (Group hops)) own) ≡ group_places hops (if applied then 0 else 1)) → places_for (built_first (first_absent names (owners_of group)) own) ≡ places_needed (lacks_shared names group) group applied
+by_group : (names : Names) (group : Option Name) (applied : Bool) (own : List Change) → AreGroups group → places_for own ≡ route_places (if applied then 0 else 1) → ((hops : List WHop) → places_for (make_all (shared_things (Group hops)) own) ≡ group_places hops (if applied then 0 else 1)) → places_for (built_first (first_absent names (owners_of group)) own) ≡ places_needed (lacks_shared names group) group applied
 by_group names None applied own groups plain built = plain
 by_group names (Some (name.Group hops)) applied own groups plain built = by_state (state_of names (name.Group hops)) hops applied own plain (built hops)
 by_group names (Some (name.Row k)) applied own groups plain built = elim groups [ ]

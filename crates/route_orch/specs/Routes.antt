@@ -8,7 +8,7 @@ use Rattle.table_schema.specs.declared.row.Row.{Row}
 use Rattle.table_schema.specs.declared.row.Row.TheVariants as row
 use Rattle.table_schema.specs.declared.row.RouteRow.{RouteRow}
 use Rattle.sai_types.specs.contracts.thing.GoalPartialEq.TheImpl as goal_eq
-use Rattle.sai_types.specs.declared.hop.Hop.{Hop}
+use Rattle.sai_types.specs.declared.weight.WHop.{WHop}
 use Rattle.sai_types.specs.declared.thing.Goal.{Goal}
 use Rattle.sai_types.specs.declared.thing.Thing.TheVariants as thing
 use Rattle.sai_types.specs.Names as thing_name
@@ -63,14 +63,14 @@ later_step step.Set = step.Changed
 later_step _ = step.Ended
 
 -- the hops of a group's name, where it is one
-abbrev pub group_hops : Option Name → Option (List Hop)
+abbrev pub group_hops : Option Name → Option (List WHop)
 group_hops (Some (name.Group hops)) = Some hops
 group_hops _ = None
 
 -- what a route's flight is, as far as it is made, and the group that the new row has
 pub record RouteState : Type 0 where
   pub operation : Operation
-  pub group : Option (List Hop)
+  pub group : Option (List WHop)
 
 abbrev pub route_state : Option RouteRow → RouteBody → RouteState
 route_state new b = record { operation = route_operation b.worker b.prefix b.applied new b.target b.step b.leaves b.retires; group = group_hops b.target.group }
@@ -97,6 +97,6 @@ pub record IsFirst (plan : Ports) (worker : ℕ) (k : Key) (old new : Option Row
   pub groups : AreGroups b.leaves
   pub retires : b.retires ≡ None
 
-abbrev pub group_owners : Option (List Hop) → List Owner
+abbrev pub group_owners : Option (List WHop) → List Owner
 group_owners None = []
 group_owners (Some hops) = Group hops ∷ []

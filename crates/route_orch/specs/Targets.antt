@@ -1,5 +1,5 @@
 -- Where a route points. Own.
-use Rattle.std.specs.Prelude.{◌≡◌, ◌<◌, length, List, [], ◌∷◌, Option, Some, None}
+use Rattle.std.specs.Prelude.{◌≡◌, ℕ, ◌<◌, length, List, [], ◌∷◌, Option, Some, None}
 use Rattle.table_schema.specs.Plan.{Ports}
 use Rattle.table_schema.specs.declared.key.Key.{Key}
 use Rattle.table_schema.specs.declared.key.Key.TheVariants as key
@@ -66,7 +66,7 @@ abbrev pub row_way : Ports → RouteRow → Way
 row_way plan route.Drop = way.Drop
 row_way plan (route.Direct n) = way_on way.Direct (base_of plan n)
 row_way plan (route.Hops []) = way.Drop
-row_way plan (route.Hops (hop ∷ hops)) = way_on (λ b. way.Via (record { on = b; ip = hop.ip })) (base_of plan hop.on)
+row_way plan (route.Hops (hop ∷ hops)) = way_on (λ b. way.Via (record { on = b; ip = hop.0.ip })) (base_of plan hop.0.on)
 
 -- it is the target of a row: its group is what the row shares
 pub record IsTargetOf (plan : Ports) (k : Key) (o : Option Row) (t : Target) : Type 0 where
@@ -75,9 +75,9 @@ pub record IsTargetOf (plan : Ports) (k : Key) (o : Option Row) (t : Target) : T
   pub way : (r : RouteRow) → o ≡ Some (row.Route r) → t.way ≡ row_way plan r
 
 -- the identifier of the first of these hops
-abbrev pub IsToFirst : Names → List RowHop → To Vid → Type 0
+abbrev pub IsToFirst : Names → List (RowHop × ℕ) → To Vid → Type 0
 IsToFirst names [] x = Unit {0}
-IsToFirst names (h ∷ hs) x = (v : Vid) × (first_of (ids_of names (name.Row (key.Neigh h.on h.ip))) ≡ Some v) × (x ≡ to.NextHop v)
+IsToFirst names (h ∷ hs) x = (v : Vid) × (first_of (ids_of names (name.Row (key.Neigh h.0.on h.0.ip))) ≡ Some v) × (x ≡ to.NextHop v)
 
 -- the registry has the identifier under the names that the row tells
 abbrev pub PointsTo : Names → RouteRow → Goal → To Vid → Type 0

@@ -96,13 +96,13 @@ impl Target {
 }
 
 /// The next hop that is the first of some hops.
-fn to_first(reg: &Registry, hops: &[RowHop]) -> To<Vid>
-    requires { HaveIds reg.now (map (λ h. Name.Row (Key.Neigh h.on h.ip)) hops.now) }
+fn to_first(reg: &Registry, hops: &[(RowHop, u8)]) -> To<Vid>
+    requires { HaveIds reg.now (map (λ h. Name.Row (Key.Neigh h.0.on h.0.ip)) hops.now) }
     ensures { IsToFirst reg.now hops.now result }
 {
     match hops {
         [] => To::Drop,
-        [hop, ..] => To::NextHop(vid(reg, &Name::Row(Key::Neigh(hop.on, hop.ip)))),
+        [(hop, _), ..] => To::NextHop(vid(reg, &Name::Row(Key::Neigh(hop.on, hop.ip)))),
     }
 }
 
@@ -144,12 +144,12 @@ fn own_way(plan: &PortPlan, row: &RouteRow) -> Way
 }
 
 /// The way to the first of some hops.
-fn way_to(plan: &PortPlan, hops: &[RowHop]) -> Way
+fn way_to(plan: &PortPlan, hops: &[(RowHop, u8)]) -> Way
     ensures { result ≡ row_way plan.now (RouteRow.Hops hops.now) }
 {
     match hops {
         [] => Way::Drop,
-        [hop, ..] => match base_of(plan, hop.on) {
+        [(hop, _), ..] => match base_of(plan, hop.on) {
             Some(on) => Way::Via(Hop { on, ip: hop.ip }),
             None => Way::Drop,
         },

@@ -1,6 +1,5 @@
 -- what a row's things refer to is named by the row
 use Rattle.std.proofs.Common.{◌≡◌, ◌⊎◌, inl, inr, ℕ, List, [], ◌∷◌, Option, None, Some, option_map, refl, sym, ap, ◌∙◌, subst}
-use Rattle.std.specs.BTreeSet.{insert_key}
 use Rattle.std.proofs.lemmas.Option.{same_Some}
 use Rattle.swss_types.specs.declared.address.Ip.{Ip}
 use Rattle.swss_types.specs.declared.address.Mac.{Mac}
@@ -20,18 +19,18 @@ use Rattle.table_schema.specs.declared.row.RouteRow.TheVariants as route
 use Rattle.table_schema.specs.declared.row_hop.RowHop.{RowHop}
 use Rattle.sai_types.specs.declared.hop.Base.{Base}
 use Rattle.sai_types.specs.declared.hop.Base.TheVariants as base
-use Rattle.sai_types.specs.declared.hop.Hop.{Hop}
+use Rattle.sai_types.specs.declared.weight.WHop.{WHop}
 use Rattle.sai_types.specs.declared.thing.Goal.{Goal}
 use Rattle.sai_types.specs.declared.thing.Goal.TheVariants as goal
 use Rattle.sai_types.specs.declared.thing.Thing.{Thing}
 use Rattle.sai_types.specs.declared.thing.Thing.TheVariants as thing
 use Rattle.sai_types.specs.Alike.{IsIn}
-use Rattle.sai_types.specs.Named.{hop_cmp}
-use Rattle.switch_model.specs.Things.{base_of, hop_of, hops_of, lane_of}
+use Rattle.sai_types.specs.Hop.{put_hop}
+use Rattle.switch_model.specs.Things.{base_of, hop_of, hops_of, lane_of, whop_of}
 use Rattle.sai_types.specs.Names as name
 use Rattle.sai_types.specs.Names.{ThingName, Refers, base_name, goal_names}
-use Rattle.sai_types.proofs.Rising.{hop_exact, hop_total, in-back}
 use Rattle.sai_types.proofs.Things.{both_mapped}
+use Rattle.sai_types.proofs.Weights.{put-back}
 use Rattle.row_layout.specs.Rows as owner
 use Rattle.row_layout.specs.Rows.{goal_to, goal_of, own_things, owner_of}
 use Rattle.row_layout.proofs.Members.{from_in, in_map, only, two}
@@ -40,16 +39,17 @@ use Rattle.row_layout.proofs.Owners.{interface_by, port_by}
 owners : (p q : Key) → Some (owner.OfRow p) ≡ Some (owner.OfRow q) → p ≡ q
 owners p q h = cc
 
-hop_step : (plan : Ports) (x : RowHop) (xs : List RowHop) (a : List Hop) (b hop : Hop) → hop_of plan x ≡ Some b → (IsIn hop a → (h : RowHop) × IsIn h xs × (hop_of plan h ≡ Some hop)) → (hop ≡ b) ⊎ IsIn hop a → (h : RowHop) × IsIn h (x ∷ xs) × (hop_of plan h ≡ Some hop)
+hop_step : (plan : Ports) (x : RowHop × ℕ) (xs : List (RowHop × ℕ)) (a : List WHop) (b hop : WHop) → hop_of plan x.0 ≡ Some b.hop → (IsIn hop a → (h : RowHop × ℕ) × IsIn h xs × (hop_of plan h.0 ≡ Some hop.hop)) → (hop.hop ≡ b.hop) ⊎ IsIn hop a → (h : RowHop × ℕ) × IsIn h (x ∷ xs) × (hop_of plan h.0 ≡ Some hop.hop)
 hop_step plan x xs a b hop q rest (inl is) = (x, inl refl, q ∙ ap Some (sym is))
 hop_step plan x xs a b hop q rest (inr more) = let found = rest more in (found.0, inr found.1, found.2)
 
--- a hop of the chip is one of the row's
-pub hop_from : (plan : Ports) (hops : List RowHop) (group : List Hop) (hop : Hop) → hops_of plan hops ≡ Some group → IsIn hop group → (h : RowHop) × IsIn h hops × (hop_of plan h ≡ Some hop)
+-- a hop of the chip, whatever its weight, is one of the row's
+pub hop_from : (plan : Ports) (hops : List (RowHop × ℕ)) (group : List WHop) (hop : WHop) → hops_of plan hops ≡ Some group → IsIn hop group → (h : RowHop × ℕ) × IsIn h hops × (hop_of plan h.0 ≡ Some hop.hop)
 hop_from plan [] group hop e h = let is : group ≡ [] = cc in elim (subst (IsIn hop) is h) [ ]
 hop_from plan (x ∷ xs) group hop e h =
-    let parts = both_mapped (insert_key hop_cmp) (hops_of plan xs) (hop_of plan x) group e in
-    hop_step plan x xs parts.0 parts.1 hop parts.3 (hop_from plan xs parts.0 hop parts.2) (in-back hop_cmp hop_total hop_exact parts.0 parts.1 hop (subst (IsIn hop) (sym parts.4) h))
+    let parts = both_mapped put_hop (hops_of plan xs) (whop_of plan x) group e in
+    let weighed = mapped (λ z. record { hop = z; weight = x.1 }) (hop_of plan x.0) parts.1 parts.3 in
+    hop_step plan x xs parts.0 parts.1 hop (weighed.1 ∙ ap (λ (z : WHop). Some z.hop) weighed.2) (hop_from plan xs parts.0 hop parts.2) (put-back parts.1 hop parts.0 (subst (IsIn hop) (sym parts.4) h))
 
 module _ (plan : Ports) (is : IsPlan plan) where
   -- the owner of a name is not a row, or a row that is named, or the row itself
@@ -93,15 +93,15 @@ module _ (plan : Ports) (is : IsPlan plan) where
   abbrev GoalIsNamed : Prefix → RouteRow → Goal → Type 0
   GoalIsNamed prefix r g = (k : ThingName) → IsIn k (goal_names g) → IsNamed (key.Route prefix) (row.Route r) k
 
-  via_by : (prefix : Prefix) (hops : List RowHop) (o : Option (List Hop)) (g : Goal) → hops_of plan hops ≡ o → goal_to o ≡ Some g → GoalIsNamed prefix (route.Hops hops) g
+  via_by : (prefix : Prefix) (hops : List (RowHop × ℕ)) (o : Option (List WHop)) (g : Goal) → hops_of plan hops ≡ o → goal_to o ≡ Some g → GoalIsNamed prefix (route.Hops hops) g
   via_by prefix hops None g at e = λ k h. absurd cc
   via_by prefix hops (Some []) g at e = λ k h. absurd cc
   via_by prefix hops (Some (hop ∷ [])) g at e =
       let from_row = hop_from plan hops (hop ∷ []) hop at (inl refl) in
-      let m = mapped (λ b. record { on = b; ip = from_row.0.ip }) (base_of plan from_row.0.on) hop from_row.2 in
-      let named = by_owner (key.Route prefix) (row.Route (route.Hops hops)) (name.NextHop (record { on = m.0; ip = from_row.0.ip })) (key.Neigh from_row.0.on from_row.0.ip) (hop_owner from_row.0.on from_row.0.ip m.0 m.1) (in_map (λ (h : RowHop). key.Neigh h.on h.ip) from_row.0 hops from_row.1) in
+      let m = mapped (λ b. record { on = b; ip = from_row.0.0.ip }) (base_of plan from_row.0.0.on) hop.hop from_row.2 in
+      let named = by_owner (key.Route prefix) (row.Route (route.Hops hops)) (name.NextHop (record { on = m.0; ip = from_row.0.0.ip })) (key.Neigh from_row.0.0.on from_row.0.0.ip) (hop_owner from_row.0.0.on from_row.0.0.ip m.0 m.1) (in_map (λ (h : RowHop × ℕ). key.Neigh h.0.on h.0.ip) from_row.0 hops from_row.1) in
       subst (GoalIsNamed prefix (route.Hops hops)) (same_Some _ g e)
-      (λ k h. only (IsNamed (key.Route prefix) (row.Route (route.Hops hops))) k (name.NextHop hop) (subst (λ z. IsNamed (key.Route prefix) (row.Route (route.Hops hops)) (name.NextHop z)) m.2 named) h)
+      (λ k h. only (IsNamed (key.Route prefix) (row.Route (route.Hops hops))) k (name.NextHop hop.hop) (subst (λ z. IsNamed (key.Route prefix) (row.Route (route.Hops hops)) (name.NextHop z)) m.2 named) h)
   via_by prefix hops (Some (hop ∷ next ∷ more)) g at e =
       subst (GoalIsNamed prefix (route.Hops hops)) (same_Some _ g e)
       (λ k h. only (IsNamed (key.Route prefix) (row.Route (route.Hops hops))) k (name.Group (hop ∷ next ∷ more)) (λ o q. absurd cc) h)

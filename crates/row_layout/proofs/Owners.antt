@@ -16,7 +16,7 @@ use Rattle.table_schema.specs.declared.row.Row.{Row}
 use Rattle.table_schema.specs.declared.row.Row.TheVariants as row
 use Rattle.sai_types.specs.declared.hop.Base.{Base}
 use Rattle.sai_types.specs.declared.hop.Base.TheVariants as base
-use Rattle.sai_types.specs.declared.hop.Hop.{Hop}
+use Rattle.sai_types.specs.declared.weight.WHop.{WHop}
 use Rattle.sai_types.specs.declared.thing.Thing.{Thing}
 use Rattle.sai_types.specs.declared.thing.Thing.TheVariants as thing
 use Rattle.sai_types.specs.Alike.{IsIn}
@@ -81,7 +81,7 @@ module _ (plan : Ports) (is : IsPlan plan) where
       only (IsOwn (key.Route prefix)) t (thing.Route prefix m.0) refl m.2
   own _ _ t planned h = elim h [ ]
 
-  member_own : (hops some : List Hop) (t : Thing) → IsIn t (members_of hops some) → owner_of plan (name_of t) ≡ Some (owner.Group hops)
+  member_own : (hops some : List WHop) (t : Thing) → IsIn t (members_of hops some) → owner_of plan (name_of t) ≡ Some (owner.Group hops)
   member_own hops [] t h = elim h [ ]
   member_own hops (hop ∷ some) t (inl same) = ap (λ z. owner_of plan (name_of z)) same
   member_own hops (hop ∷ some) t (inr h) = member_own hops some t h

@@ -11,7 +11,7 @@ use Rattle.table_schema.specs.declared.row.Row.{Row}
 use Rattle.table_schema.specs.declared.row.Row.TheVariants as row
 use Rattle.table_schema.specs.declared.row.RouteRow.TheVariants as route
 use Rattle.sai_types.specs.declared.hop.Base.{Base}
-use Rattle.sai_types.specs.declared.hop.Hop.{Hop}
+use Rattle.sai_types.specs.declared.weight.WHop.{WHop}
 use Rattle.sai_types.specs.declared.thing.Goal.TheVariants as goal
 use Rattle.sai_types.specs.declared.thing.Thing.{Thing}
 use Rattle.sai_types.specs.declared.thing.Thing.TheVariants as thing
@@ -84,7 +84,7 @@ address_split plan (name.Ethernet port) ip = lane_address ip (lane_of plan port)
 address_split plan (name.Vlan vlan) ip = address_alone ip
 address_split plan (name.Loopback number) ip = address_alone ip
 
-group_split : (prefix : Prefix) (group : List Hop) → Splits (thing.Route prefix (goal.Group group) ∷ thing.Group group ∷ members_of group group) (thing.Route prefix (goal.Group group) ∷ []) (Group group ∷ [])
+group_split : (prefix : Prefix) (group : List WHop) → Splits (thing.Route prefix (goal.Group group) ∷ thing.Group group ∷ members_of group group) (thing.Route prefix (goal.Group group) ∷ []) (Group group ∷ [])
 group_split prefix group = with_one (thing.Route prefix (goal.Group group) ∷ []) (thing.Route prefix (goal.Group group) ∷ thing.Group group ∷ members_of group group) (Group group) parts (λ x h. inr h) mine
   where
     parts : (x : Thing) → IsIn x (thing.Route prefix (goal.Group group) ∷ thing.Group group ∷ members_of group group) → IsIn x (thing.Group group ∷ members_of group group) ⊎ IsIn x (thing.Route prefix (goal.Group group) ∷ [])
@@ -95,10 +95,10 @@ group_split prefix group = with_one (thing.Route prefix (goal.Group group) ∷ [
     mine x (inl is) = inl is
     mine x (inr h) = elim h [ ]
 
-from_hops_split : (prefix : Prefix) (o : Option (List Hop)) → Splits (from_hops prefix o) (from (goal_to o) (λ g. thing.Route prefix g ∷ [])) (group_by o)
+from_hops_split : (prefix : Prefix) (o : Option (List WHop)) → Splits (from_hops prefix o) (from (goal_to o) (λ g. thing.Route prefix g ∷ [])) (group_by o)
 from_hops_split prefix None = all_own []
 from_hops_split prefix (Some []) = all_own []
-from_hops_split prefix (Some (hop ∷ [])) = all_own (thing.Route prefix (goal.Via hop) ∷ [])
+from_hops_split prefix (Some (hop ∷ [])) = all_own (thing.Route prefix (goal.Via hop.hop) ∷ [])
 from_hops_split prefix (Some (hop ∷ next ∷ more)) = group_split prefix (hop ∷ next ∷ more)
 
 -- what a row stands for on the chip is its own, and what it uses

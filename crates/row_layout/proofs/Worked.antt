@@ -11,7 +11,7 @@ use Rattle.table_schema.specs.declared.row.Row.{Row}
 use Rattle.table_schema.specs.declared.row.Row.TheVariants as row
 use Rattle.table_schema.specs.declared.row.RouteRow.TheVariants as route
 use Rattle.sai_types.specs.declared.hop.Base.TheVariants as base
-use Rattle.sai_types.specs.declared.hop.Hop.{Hop}
+use Rattle.sai_types.specs.declared.weight.WHop.{WHop}
 use Rattle.sai_types.specs.declared.thing.Goal.TheVariants as goal
 use Rattle.sai_types.specs.declared.thing.Thing.TheVariants as thing
 use Rattle.sai_types.specs.Names as name
@@ -68,17 +68,17 @@ last_address_goes = refl
 abbrev net : ℕ → Prefix
 net n = record { ip = ten n; len = 24 }
 
--- the hops of the row by interface name and address, and of the chip by base and address
+-- the hops of the row by interface name and address, and of the chip by base and address, each with its weight
 abbrev hops : Row
-hops = row.Route (route.Hops (record { on = on.Ethernet 0; ip = ten 2 } ∷ record { on = on.Ethernet 4; ip = ten 3 } ∷ []))
+hops = row.Route (route.Hops ((record { on = on.Ethernet 0; ip = ten 2 }, 3) ∷ (record { on = on.Ethernet 4; ip = ten 3 }, 1) ∷ []))
 
-abbrev one : Hop
-one = record { on = base.Port 0; ip = ten 2 }
+abbrev one : WHop
+one = record { hop = record { on = base.Port 0; ip = ten 2 }; weight = 3 }
 
-abbrev other : Hop
-other = record { on = base.Port 4; ip = ten 3 }
+abbrev other : WHop
+other = record { hop = record { on = base.Port 4; ip = ten 3 }; weight = 1 }
 
-abbrev group : List Hop
+abbrev group : List WHop
 group = one ∷ other ∷ []
 
 first_route : changes_of ports (key.Route (net 256)) None (Some hops) alone ≡ Make (thing.Group group) ∷ Make (thing.GroupMember group one) ∷ Make (thing.GroupMember group other) ∷ Make (thing.Route (net 256) (goal.Group group)) ∷ []

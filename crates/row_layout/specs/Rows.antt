@@ -12,7 +12,7 @@ use Rattle.table_schema.specs.declared.row.RouteRow.{RouteRow}
 use Rattle.table_schema.specs.declared.row.RouteRow.TheVariants as route
 use Rattle.sai_types.specs.declared.hop.Base.{Base}
 use Rattle.sai_types.specs.declared.hop.Base.TheVariants as base
-use Rattle.sai_types.specs.declared.hop.Hop.{Hop}
+use Rattle.sai_types.specs.declared.weight.WHop.{WHop}
 use Rattle.sai_types.specs.declared.thing.Goal.{Goal}
 use Rattle.sai_types.specs.declared.thing.Goal.TheVariants as goal
 use Rattle.sai_types.specs.declared.thing.Thing.{Thing}
@@ -26,7 +26,7 @@ pub data Owner : Type 0 where
   OfRow : Key → Owner
   Bridge : ℕ → Owner
   Own : Ip → Owner
-  Group : List Hop → Owner
+  Group : List WHop → Owner
 
 -- the name of the interface on a base
 abbrev pub interface_on : Ports → Base → Option IfName
@@ -48,10 +48,10 @@ owner_of plan (name.GroupMember hops hop) = Some (Group hops)
 owner_of plan (name.Route prefix) = Some (OfRow (key.Route prefix))
 
 -- where a route's row points
-abbrev pub goal_to : Option (List Hop) → Option Goal
+abbrev pub goal_to : Option (List WHop) → Option Goal
 goal_to None = None
 goal_to (Some []) = None
-goal_to (Some (hop ∷ [])) = Some (goal.Via hop)
+goal_to (Some (hop ∷ [])) = Some (goal.Via hop.hop)
 goal_to (Some (hop ∷ next ∷ hops)) = Some (goal.Group (hop ∷ next ∷ hops))
 
 abbrev pub goal_of : Ports → RouteRow → Option Goal

@@ -10,7 +10,7 @@ use Rattle.table_schema.specs.declared.row.Row.{Row}
 use Rattle.table_schema.specs.declared.row.Row.TheVariants as row
 use Rattle.table_schema.specs.declared.row.RouteRow.{RouteRow}
 use Rattle.table_schema.specs.declared.row.RouteRow.TheVariants as route
-use Rattle.sai_types.specs.declared.hop.Hop.{Hop}
+use Rattle.sai_types.specs.declared.weight.WHop.{WHop}
 use Rattle.sai_types.specs.declared.thing.Thing.{Thing}
 use Rattle.sai_types.specs.declared.thing.Thing.TheVariants as thing
 use Rattle.switch_model.specs.Things.{hops_of, lane_of, members_of}
@@ -24,7 +24,7 @@ shared_things (Bridge lane) = thing.BridgePort lane ∷ []
 shared_things (Own ip) = thing.Own ip ∷ []
 shared_things (Group hops) = thing.Group hops ∷ members_of hops hops
 
-abbrev pub group_by : Option (List Hop) → List Owner
+abbrev pub group_by : Option (List WHop) → List Owner
 group_by None = []
 group_by (Some []) = []
 group_by (Some (hop ∷ [])) = []

@@ -1,8 +1,10 @@
 -- what clashes with a body, and what refers to an entry, by marks
-use Rattle.std.proofs.Common.{◌≡◌, ℕ, ◌==◌, Bool, false, ◌||◌, ◌&&◌, List, [], ◌∷◌, refl, sym, ap, ◌∙◌, rules}
+use Rattle.std.proofs.Common.{◌≡◌, ℕ, ◌==◌, Bool, true, false, ◌||◌, ◌&&◌, List, [], ◌∷◌, refl, sym, ap, ◌∙◌, rules}
 use Rattle.std.specs.List.{list_any}
 use Rattle.std.specs.BTreeMap.{is_at}
 use Rattle.std.specs.Cmp.{both_tied}
+use Rattle.std.proofs.lemmas.Bool.{and_parts, eq-eqb, false≢true}
+use Rattle.std.proofs.lemmas.Cmp.{nat_eq_equiv}
 use Rattle.swss_types.specs.contracts.address.IpOrd.TheImpl as ip_ord
 use Rattle.swss_types.specs.declared.address.Ip.{Ip}
 use Rattle.swss_types.specs.declared.tagging.Tagging.{Tagging}
@@ -25,8 +27,10 @@ use Rattle.sai_types.specs.Objects.{Objects}
 use Rattle.sai_types.proofs.Apart.{any_any, any_same}
 use Rattle.sai_chip.specs.declared.mark.TakenMark.{TakenMark}
 use Rattle.sai_chip.specs.declared.mark.TakenMark.TheVariants as mark
-use Rattle.sai_chip.specs.Tally.{is_mark}
+use Rattle.sai_chip.specs.Tally.{is_mark, same_member}
 use Rattle.sai_chip.specs.Marks.{lane_marks, base_marks, target_marks, has_mark, is_claimed}
+use Rattle.sai_chip.proofs.MemberCounts.{member_tied}
+use Rattle.sai_chip.proofs.Passing.{and_all, and_regrouped}
 
 mark_of_port : (a b : Rid) → is_mark (mark.BridgePort a) (mark.BridgePort b) ≡ same_id b a
 mark_of_port a b = search rules
@@ -45,9 +49,6 @@ mark_of_base (on.Vlan a) (on.Vlan b) = search rules
 
 mark_of_member : (a c b d : Rid) → is_mark (mark.VlanMember a c) (mark.VlanMember b d) ≡ (same_id b a && same_id d c)
 mark_of_member a c b d = search rules
-
-mark_of_group_member : (a c b d : Rid) → is_mark (mark.GroupMember a c) (mark.GroupMember b d) ≡ (same_id b a && same_id d c)
-mark_of_group_member a c b d = search rules
 
 mark_of_next_hop : (a b : Rid) (x y : Ip) → is_mark (mark.NextHop a x) (mark.NextHop b y) ≡ (same_id b a && same_ip y x)
 mark_of_next_hop a b x y = sym (both_tied (same_id b a) (same_ip y x) _ _ (sym (mark_of_port a b)) (sym (mark_of_ip x y)))
@@ -97,12 +98,35 @@ clash-next_hop r ip (body.Rif on) = sym (no_base (mark.NextHop r ip) on (λ r. r
 clash-next_hop r ip (body.Route prefix to) = sym (no_target (mark.NextHop r ip) to (λ r. refl))
 clash-next_hop r ip _ = refl
 
-pub clash-group_member : (g n : Rid) (o : Body Rid) → clash (body.GroupMember g n) o ≡ has_mark (mark.GroupMember g n) o
-clash-group_member g n (body.GroupMember h m) = sym (or_none _ ∙ mark_of_group_member h m g n)
-clash-group_member g n (body.Port lanes speed mtu up) = sym (no_lane (mark.GroupMember g n) lanes (λ l. refl))
-clash-group_member g n (body.Rif on) = sym (no_base (mark.GroupMember g n) on (λ r. refl))
-clash-group_member g n (body.Route prefix to) = sym (no_target (mark.GroupMember g n) to (λ r. refl))
-clash-group_member g n _ = refl
+-- whether a body is a member of a group with this next hop and weight
+abbrev pub is_member : Rid → Rid → ℕ → Body Rid → Bool
+is_member g n w (body.GroupMember h m v) = same_id g h && same_member (n, w) (m, v)
+is_member g n w _ = false
+
+pub mark-member : (g n : Rid) (w : ℕ) (o : Body Rid) → has_mark (mark.GroupMember g n w) o ≡ is_member g n w o
+mark-member g n w (body.GroupMember h m v) =
+    or_none _
+    ∙ sym (member_tied h m v (g, n, w))
+    ∙ ap (λ b. (same_id g h && same_id n m) && b) (nat_eq_equiv.symm v w)
+    ∙ sym (and_regrouped (same_id g h) (same_id n m) (w == v))
+mark-member g n w (body.Port lanes speed mtu up) = no_lane (mark.GroupMember g n w) lanes (λ l. refl)
+mark-member g n w (body.Rif on) = no_base (mark.GroupMember g n w) on (λ r. refl)
+mark-member g n w (body.Route prefix to) = no_target (mark.GroupMember g n w) to (λ r. refl)
+mark-member g n w _ = refl
+
+-- a member clashes with each of its group and next hop
+pub clash-member : (g n : Rid) (v w : ℕ) (o : Body Rid) → is_member g n w o ≡ true → clash (body.GroupMember g n v) o ≡ true
+clash-member g n v w (body.GroupMember h m x) is =
+    let parts = and_parts (same_id g h) (same_member (n, w) (m, x)) is in
+    ap (λ b. b && same_id n m) parts.0 ∙ (and_parts (same_id n m) (w == x) parts.1).0
+clash-member g n v w _ is = absurd (false≢true is)
+
+-- and with no other body
+pub never-clashes : (g n : Rid) (v : ℕ) (o : Body Rid) → ((w : ℕ) → is_member g n w o ≡ false) → clash (body.GroupMember g n v) o ≡ false
+never-clashes g n v (body.GroupMember h m x) none =
+    ap (λ b. same_id g h && b) (sym (ap (λ b. same_id n m && b) (eq-eqb x x refl) ∙ and_all (same_id n m)))
+    ∙ none x
+never-clashes g n v _ none = refl
 
 pub clash-rif : (on : RifOn Rid) (o : Body Rid) → clash (body.Rif on) o ≡ has_mark (mark.Rif on) o
 clash-rif on (body.Rif other) = sym (ap (λ b. is_mark (mark.Rif other) (mark.Rif on) || b) (no_base (mark.Rif on) other (λ r. refl)) ∙ or_none _ ∙ mark_of_base other on)

@@ -3,7 +3,7 @@ use Rattle.std.proofs.Common.{◌≡◌, cond, List, [], ◌∷◌, Option, None
 use Rattle.std.specs.Ordering.{is_eq}
 use Rattle.std.specs.Option.{unwrap_or}
 use Rattle.sai_types.specs.declared.ids.Rid.{Rid}
-use Rattle.sai_types.specs.declared.hop.Hop.{Hop}
+use Rattle.sai_types.specs.declared.weight.WHop.{WHop}
 use Rattle.sai_types.specs.declared.thing.Thing.TheVariants as thing
 use Rattle.sai_types.specs.declared.thing.Goal.TheVariants as goal
 use Rattle.sai_types.specs.declared.body.Body.{Body}
@@ -12,13 +12,13 @@ use Rattle.sai_types.specs.declared.body.Entry.{Entry}
 use Rattle.sai_types.specs.declared.body.Entry.TheVariants as entry
 use Rattle.sai_types.specs.declared.body.To.TheVariants as to
 use Rattle.sai_types.specs.Objects.{Objects}
-use Rattle.sai_types.specs.Named.{both, hops_at, next_hop_at, thing_by, thing_of}
+use Rattle.sai_types.specs.Named.{both, hops_at, thing_by, thing_of, whop_at}
 use Rattle.chip_names.specs.Members.{HasHops, group_named_by}
 use Rattle.chip_names.specs.Naming.{GroupHops, hops_of_group}
 use Rattle.sai_chip.proofs.MarkRanges.{group_tied}
 
-thing_by-known : (f h : Rid → Option (List Hop)) (objects : Objects) (e : Entry Rid) (b : Body Rid) → ((g : Rid) → group_named_by e b ≡ Some g → f g ≡ h g) → thing_by f objects (e, b) ≡ thing_by h objects (e, b)
-thing_by-known f h objects e (body.GroupMember group next_hop) known = ap (λ hs. both thing.GroupMember hs (next_hop_at objects next_hop)) (known group refl)
+thing_by-known : (f h : Rid → Option (List WHop)) (objects : Objects) (e : Entry Rid) (b : Body Rid) → ((g : Rid) → group_named_by e b ≡ Some g → f g ≡ h g) → thing_by f objects (e, b) ≡ thing_by h objects (e, b)
+thing_by-known f h objects e (body.GroupMember group next_hop weight) known = ap (λ hs. both thing.GroupMember hs (whop_at objects next_hop weight)) (known group refl)
 thing_by-known f h objects e (body.Route prefix (to.Group g)) known = ap (λ hs. option_map (thing.Route prefix) (option_map goal.Group hs)) (known g refl)
 thing_by-known f h objects (entry.Oid g) body.Group known = ap (option_map thing.Group) (known g refl)
 thing_by-known f h objects e b known = refl
@@ -28,7 +28,7 @@ pub thing_of-known : (objects : Objects) (e : Entry Rid) (b : Body Rid) (groups 
 thing_of-known objects e b groups has = thing_by-known (hops_of_group groups) (hops_at objects) objects e b has.each
 
 -- the hops of one group
-pub HasHops-one : (objects : Objects) (e : Entry Rid) (b : Body Rid) (g : Rid) (hops : Option (List Hop)) → group_named_by e b ≡ Some g → hops ≡ hops_at objects g → HasHops objects e b ((g, hops) ∷ [])
+pub HasHops-one : (objects : Objects) (e : Entry Rid) (b : Body Rid) (g : Rid) (hops : Option (List WHop)) → group_named_by e b ≡ Some g → hops ≡ hops_at objects g → HasHops objects e b ((g, hops) ∷ [])
 HasHops-one objects e b g hops named is = record {
   each = λ k at.
       let same : g ≡ k = cc in

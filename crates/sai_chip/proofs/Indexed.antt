@@ -4,7 +4,7 @@ use Rattle.std.specs.BTreeMap.{BTreeMap, get, is_at}
 use Rattle.sai_types.specs.declared.fail.Fail.{Fail}
 use Rattle.sai_chip.specs.Failing.{IsFailIndex, fail_at}
 
-is_at-nat_cmp : (a b : ℕ) → is_at (nat_cmp a) b ≡ (a == b)
+pub is_at-nat_cmp : (a b : ℕ) → is_at (nat_cmp a) b ≡ (a == b)
 is_at-nat_cmp a b = search rules
 
 -- one more entry in front

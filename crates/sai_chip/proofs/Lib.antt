@@ -7,12 +7,14 @@ mod GroupNames
 mod HopSets
 mod Indexed
 mod Kept
-mod MarkRanges
 mod LanesStay
 mod Looked
+mod MarkRanges
+mod MemberCounts
 mod Members
 mod Nearby
 mod Parts
+mod Passing
 mod Recounted
 pub mod Remades
 pub mod Replays

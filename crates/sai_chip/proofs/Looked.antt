@@ -24,7 +24,7 @@ use Rattle.sai_types.specs.After.{has_id}
 use Rattle.swss_types.specs.Packets.{packet_to}
 use Rattle.swss_types.specs.declared.vrf.Packet.{Packet}
 use Rattle.sai_types.specs.Forwarding.{best_route, has_own, hop_mac}
-use Rattle.sai_types.specs.Named.{both, base_on, bridge_port_at, goal_by, hop_on, hops_at, named, next_hop_at, port_at, thing_of, those, vlan_at}
+use Rattle.sai_types.specs.Named.{both, base_on, bridge_port_at, goal_by, hop_on, hops_at, named, port_at, thing_of, those, vlan_at, whop_at}
 use Rattle.sai_types.specs.Objects.{Objects}
 use Rattle.chip_names.specs.Naming.{numbered}
 use Rattle.chip_names.proofs.SameNames.{map-things_among}
@@ -78,7 +78,7 @@ module _ {R : Type 0} (F : List Thing → R) where
       passes_id r (body.Neighbor rif ip mac) h = absurd (false≢true h)
       passes_id r (body.NextHop rif ip) h = passes-map thing.NextHop (λ x. other _ refl) (hop_on objects rif ip)
       passes_id r body.Group h = passes-map thing.Group (λ x. other _ refl) (hops_at objects r)
-      passes_id r (body.GroupMember group next_hop) h = passes-both thing.GroupMember (λ x y. other _ refl) (hops_at objects group) (next_hop_at objects next_hop)
+      passes_id r (body.GroupMember group next_hop weight) h = passes-both thing.GroupMember (λ x y. other _ refl) (hops_at objects group) (whop_at objects next_hop weight)
       passes_id r (body.Route prefix to) h = absurd (false≢true h)
 
       pub past-ids : (ids : List (Rid × Body Rid)) (rest : Objects) → HaveIdKinds ids → seen (numbered ids ++ rest) ≡ seen rest

@@ -1,139 +1,190 @@
--- the counted members of a group: they stand together, from the first that the group may have
-use Rattle.std.proofs.Common.{◌≡◌, ◌⊎◌, inl, inr, ℕ, ◌<◌, nat_lt, nat_cmp, Bool, true, false, cond, ◌||◌, ◌&&◌, List, [], ◌∷◌, ◌++◌, Option, Some, Ordering, if◌then◌else◌, refl, sym, ap, ◌∙◌, arith}
+-- the counted members of a group, and those with one next hop: they stand together, from the first that there may be
+use Rattle.std.proofs.Common.{◌≡◌, ℕ, ◌<◌, ◌+◌, nat_cmp, Bool, true, false, cond, ◌||◌, ◌&&◌, List, [], ◌∷◌, ◌++◌, map, Ordering, refl, sym, ap, ◌∙◌, arith}
 use Rattle.std.specs.declared.cmp.Ordering.TheVariants.{Less, Equal, Greater}
 use Rattle.std.specs.declared.ops.Bound.TheVariants.{Included, Unbounded}
 use Rattle.std.specs.Ordering.{MatchOrdering, is_eq, is_le, ordering_then}
-use Rattle.std.specs.BTreeMap.{is_at}
-use Rattle.std.specs.BTreeMap.Range.{range_contains, entries_between}
-use Rattle.std.specs.Cmp.{IsTotalOrder, eq_by_cmp_equiv}
-use Rattle.std.specs.List.{filter, list_any}
+use Rattle.std.specs.BTreeMap.Range.{entries_between}
+use Rattle.std.specs.Cmp.{IsTotalOrder, both_tied}
+use Rattle.std.specs.List.{AllByRecursion, filter, list_any}
 use Rattle.std.specs.List.Sorted.{IsStrictlySortedBy}
-use Rattle.std.specs.Map.{keys_of, lookup}
-use Rattle.std.specs.Option.{unwrap_or}
-use Rattle.std.proofs.lemmas.Cmp.{on_total, ranked, then_total, tied_itself}
+use Rattle.std.specs.Map.{keys_of}
+use Rattle.std.proofs.lemmas.Cmp.{alike_right, nat_cmp_total, on_total, ranked, then_total, tied_itself}
 use Rattle.std.proofs.lemmas.List.{append-nil}
-use Rattle.std.proofs.lemmas.Map.{lookup-none}
-use Rattle.std.proofs.lemmas.Map.Entries.{none_below_head, none_past_head}
-use Rattle.std.proofs.lemmas.Map.Keys.{IsDistinct-from_sorted, sorted_tail}
+use Rattle.std.proofs.lemmas.Map.Keys.{sorted_head, sorted_tail}
 use Rattle.sai_types.specs.declared.ids.Rid.{Rid}
 use Rattle.sai_types.specs.contracts.ids.RidOrd.TheImpl.Laws as ordered_rid
 use Rattle.sai_types.specs.Refusal.{same_id}
-use Rattle.sai_types.proofs.Apart.{same_id-symm}
-use Rattle.sai_types.proofs.Exact.{id-exact}
 use Rattle.chip_names.specs.Naming.{rid_cmp}
 use Rattle.chip_names.proofs.Ids.{rid_tied}
-use Rattle.sai_chip.specs.Tally.{count_in, pair_cmp}
+use Rattle.sai_chip.specs.Tally.{AreMembers, Member, has_member, member_cmp, pair_cmp}
 
-abbrev Members : Type 0
-Members = List ((Rid × Rid) × ℕ)
+abbrev pub Counted : Type 0
+Counted = Member × ℕ
 
--- the least pair that a member of the group may have
-abbrev pub first_pair : Rid → Rid × Rid
-first_pair g = (g, record { 0 = 0 })
+abbrev pub Members : Type 0
+Members = List Counted
 
-abbrev pub with_front : Bool → Rid → ℕ → List Rid → List Rid
-with_front false n count ns = []
-with_front true n count ns = if nat_lt 0 count then n ∷ ns else ns
+-- the least member that a group may have, and the least with one next hop
+abbrev pub first_of : Rid → Member
+first_of g = (g, record { 0 = 0 }, 1)
 
--- the next hops of the group at the front of these counts
-abbrev pub front : Rid → Members → List Rid
-front g [] = []
-front g (e ∷ es) = with_front (same_id e.0.0 g) e.0.1 e.1 (front g es)
+abbrev pub first_with : Rid → Rid → Member
+first_with g n = (g, n, 1)
+
+abbrev pub from : Member → Members → Members
+from first es = entries_between member_cmp (Included first) Unbounded es
+
+abbrev first_two : Member → Rid × Rid
+first_two m = (m.0, m.1)
 
 pub pair_total : IsTotalOrder pair_cmp
 pair_total = then_total (on_total (λ (p : Rid × Rid). p.0) ordered_rid.total-law) (on_total (λ (p : Rid × Rid). p.1) ordered_rid.total-law)
 
--- below the group's pairs
-record IsBelow (g : Rid) (p : Rid × Rid) : Type 0 where
-  outside : is_le (pair_cmp (first_pair g) p) ≡ false
-  apart : (n : Rid) → is_eq (pair_cmp (g, n) p) ≡ false
-
--- above them
-record IsAbove (g : Rid) (p : Rid × Rid) : Type 0 where
-  inside : is_le (pair_cmp (first_pair g) p) ≡ true
-  less : (n : Rid) → pair_cmp (g, n) p ≡ Less
-  other : same_id p.0 g ≡ false
-
-place_by : (g h n : Rid) (r : Ordering) → rid_cmp g h ≡ r → IsBelow g (h, n) ⊎ ((same_id h g ≡ true) ⊎ IsAbove g (h, n))
-place_by g h n Less e = inr (inr (record {
-  inside = ap (λ r. is_le (ordering_then r (rid_cmp (record { 0 = 0 }) n))) e;
-  less = λ k. ap (λ r. ordering_then r (rid_cmp k n)) e;
-  other = rid_tied g h ∙ ap is_eq e;
-}))
-place_by g h n Equal e = inr (inl (rid_tied g h ∙ ap is_eq e))
-place_by g h n Greater e = inl (record {
-  outside = ap (λ r. is_le (ordering_then r (rid_cmp (record { 0 = 0 }) n))) e;
-  apart = λ k. ap (λ r. is_eq (ordering_then r (rid_cmp k n))) e;
-})
-
-least_by : (k : ℕ) (r : Ordering) → MatchOrdering r (0 < k) (0 ≡ k) (k < 0) → is_le r ≡ true
-least_by k Less h = refl
-least_by k Equal h = refl
-least_by k Greater h = absurd (omega (arith, h))
-
-zero_is_least : (k : ℕ) → is_le (nat_cmp 0 k) ≡ true
-zero_is_least k = least_by k (nat_cmp 0 k) (ranked 0 k (nat_cmp 0 k) refl)
+pub member_total : IsTotalOrder member_cmp
+member_total = then_total (on_total first_two pair_total) (on_total (λ (m : Member). m.2) nat_cmp_total)
 
 pub group_tied : (g : Rid) → rid_cmp g g ≡ Equal
 group_tied g = tied_itself ordered_rid.total-law g
 
-first_below : (g m : Rid) → is_le (pair_cmp (first_pair g) (g, m)) ≡ true
-first_below g m = ap (λ r. is_le (ordering_then r (rid_cmp (record { 0 = 0 }) m))) (group_tied g) ∙ zero_is_least m.0
+-- ---- what is least
 
-pair_tied : (g n m : Rid) → is_eq (pair_cmp (g, n) (g, m)) ≡ same_id n m
-pair_tied g n m = ap (λ r. is_eq (ordering_then r (rid_cmp n m))) (group_tied g) ∙ sym (rid_tied n m) ∙ same_id-symm m n
+least_by : (m k : ℕ) (r : Ordering) → MatchOrdering r (m < k) (m ≡ k) (k < m) → m < k + 1 → is_le r ≡ true
+least_by m k Less h small = refl
+least_by m k Equal h small = refl
+least_by m k Greater h small = absurd (omega (arith, h, small))
 
-marked_same : (n m : Rid) (ns : List Rid) (b : Bool) → same_id n m ≡ true → list_any (same_id n) ns ≡ false → list_any (same_id n) (cond b (m ∷ ns) ns) ≡ b
-marked_same n m ns true same none = ap (λ b. b || list_any (same_id n) ns) same
-marked_same n m ns false same none = none
+is_least : (m k : ℕ) → m < k + 1 → is_le (nat_cmp m k) ≡ true
+is_least m k small = least_by m k (nat_cmp m k) (ranked m k (nat_cmp m k) refl) small
 
-marked_other : (n m : Rid) (ns : List Rid) (b : Bool) → same_id n m ≡ false → list_any (same_id n) (cond b (m ∷ ns) ns) ≡ list_any (same_id n) ns
-marked_other n m ns true other = ap (λ b. b || list_any (same_id n) ns) other
-marked_other n m ns false other = refl
+le_then : (r s : Ordering) → is_le s ≡ true → is_le (ordering_then r s) ≡ is_le r
+le_then Less s h = refl
+le_then Equal s h = h
+le_then Greater s h = refl
 
-module _ (g n : Rid) where
-  abbrev in_range : Rid × Rid → Bool
-  in_range p = range_contains pair_cmp (Included (first_pair g)) Unbounded p
+le_first : (r s : Ordering) → is_le (ordering_then r s) ≡ true → is_le r ≡ true
+le_first Less s h = refl
+le_first Equal s h = refl
+le_first Greater s h = h
 
-  abbrev from : Members → Members
-  from es = filter (λ e. in_range e.0) es
+-- ---- the front of what stands from the first on
 
-  abbrev has : List Rid → Bool
-  has ns = list_any (same_id n) ns
+abbrev pub with_front : {X : Type 0} → Bool → X → List X → List X
+with_front false x xs = []
+with_front true x xs = x ∷ xs
 
-  abbrev counted : Option ℕ → Bool
-  counted o = nat_lt 0 (unwrap_or o 0)
+module _ {X : Type 0} (test : Counted → Bool) (of : Counted → X) where
+  -- what those at the front give that pass a test
+  abbrev pub front : Members → List X
+  front [] = []
+  front (e ∷ es) = with_front (test e) (of e) (front es)
 
-  found_one : (b : Bool) (e : (Rid × Rid) × ℕ) (es : Members) → IsStrictlySortedBy pair_cmp (keys_of (e ∷ es)) → same_id n e.0.1 ≡ b → is_eq (pair_cmp (g, n) e.0) ≡ b → has (front g (from es)) ≡ nat_lt 0 (count_in pair_cmp es (g, n)) → has (with_front true e.0.1 e.1 (front g (from es))) ≡ nat_lt 0 (count_in pair_cmp (e ∷ es) (g, n))
-  found_one true e es sorted same at found =
-      let past = lookup-none (is_at (pair_cmp (g, n))) es (none_past_head (eq_by_cmp_equiv pair_total) (g, n) e es (IsDistinct-from_sorted pair_cmp (keys_of (e ∷ es)) sorted) at) in
-      marked_same n e.0.1 (front g (from es)) (nat_lt 0 e.1) same (found ∙ ap counted past)
-      ∙ sym (ap (λ b. counted (cond b (Some e.1) (lookup (is_at (pair_cmp (g, n))) es))) at)
-  found_one false e es sorted other at found =
-      marked_other n e.0.1 (front g (from es)) (nat_lt 0 e.1) other
-      ∙ found
-      ∙ sym (ap (λ b. counted (cond b (Some e.1) (lookup (is_at (pair_cmp (g, n))) es))) at)
+  module _ {P : Type 0} (cmp : P → P → Ordering) (total : IsTotalOrder cmp) (part : Member → P) (p : P) (tied : (e : Counted) → test e ≡ is_eq (cmp p (part e.0))) (first : Member) (least : (k : Member) → 0 < k.2 → is_le (member_cmp first k) ≡ is_le (cmp p (part k))) (rises : (a b : Member) → member_cmp a b ≡ Less → is_le (cmp (part a) (part b)) ≡ true) where
+    less_on : (x y : P) (r : Ordering) → cmp x y ≡ r → cmp p x ≡ Less → is_le r ≡ true → cmp p y ≡ Less
+    less_on x y Less is less le = total.trans p x y less is
+    less_on x y Equal is less le = sym (alike_right total x y p is) ∙ less
+    less_on x y Greater is less le = absurd cc
 
-  found_step : (e : (Rid × Rid) × ℕ) (es : Members) → IsStrictlySortedBy pair_cmp (keys_of (e ∷ es)) → IsBelow g e.0 ⊎ ((same_id e.0.0 g ≡ true) ⊎ IsAbove g e.0) → has (front g (from es)) ≡ nat_lt 0 (count_in pair_cmp es (g, n)) → has (front g (from (e ∷ es))) ≡ nat_lt 0 (count_in pair_cmp (e ∷ es) (g, n))
-  found_step e es sorted (inl below) found =
-      ap (λ b. has (front g (cond (b && true) (e ∷ from es) (from es)))) below.outside
-      ∙ found
-      ∙ sym (ap (λ b. counted (cond b (Some e.1) (lookup (is_at (pair_cmp (g, n))) es))) (below.apart n))
-  found_step e es sorted (inr (inl same)) found =
-      let is : e.0 ≡ (g, e.0.1) = ap (λ h. (h, e.0.1)) (id-exact e.0.0 g same) in
-      ap (λ b. has (front g (cond (b && true) (e ∷ from es) (from es)))) (ap (λ p. is_le (pair_cmp (first_pair g) p)) is ∙ first_below g e.0.1)
-      ∙ ap (λ b. has (with_front b e.0.1 e.1 (front g (from es)))) same
-      ∙ found_one (same_id n e.0.1) e es sorted refl (ap (λ p. is_eq (pair_cmp (g, n) p)) is ∙ pair_tied g n e.0.1) found
-  found_step e es sorted (inr (inr above)) found =
-      ap (λ b. has (front g (cond (b && true) (e ∷ from es) (from es)))) above.inside
-      ∙ ap (λ b. has (with_front b e.0.1 e.1 (front g (from es)))) above.other
-      ∙ sym (ap counted (lookup-none (is_at (pair_cmp (g, n))) (e ∷ es) (none_below_head pair_total (g, n) e es sorted (above.less n))))
+    none_behind : (k : Member) (es : Members) → cmp p (part k) ≡ Less → AllByRecursion (λ y. member_cmp k y ≡ Less) (keys_of es) → map of (filter test es) ≡ []
+    none_behind k [] less all = refl
+    none_behind k (e ∷ es) less all =
+        let apart : test e ≡ false = tied e ∙ ap is_eq (less_on (part k) (part e.0) _ refl less (rises k e.0 all.0)) in
+        ap (λ b. map of (cond b (e ∷ filter test es) (filter test es))) apart ∙ none_behind k es less all.1
 
-  -- the next hops at the front of the counts from the group's first on are those that are counted
-  pub front-counted : (es : Members) → IsStrictlySortedBy pair_cmp (keys_of es) → has (front g (entries_between pair_cmp (Included (first_pair g)) Unbounded es)) ≡ nat_lt 0 (count_in pair_cmp es (g, n))
-  front-counted [] sorted = refl
-  front-counted (e ∷ es) sorted = found_step e es sorted (place_by g e.0.0 e.0.1 (rid_cmp g e.0.0) refl) (front-counted es (sorted_tail pair_cmp e.0 (keys_of es) sorted))
+    front_step : (e : Counted) (es : Members) (r : Ordering) → cmp p (part e.0) ≡ r → 0 < e.0.2 → IsStrictlySortedBy member_cmp (keys_of (e ∷ es)) → front (from first es) ≡ map of (filter test es) → front (from first (e ∷ es)) ≡ map of (filter test (e ∷ es))
+    front_step e es Less is some sorted rest =
+        ap (λ b. front (cond (b && true) (e ∷ from first es) (from first es))) (least e.0 some ∙ ap is_le is)
+        ∙ ap (λ b. with_front b (of e) (front (from first es))) (tied e ∙ ap is_eq is)
+        ∙ sym (none_behind e.0 es is (sorted_head member_cmp e.0 (keys_of es) sorted))
+        ∙ sym (ap (λ b. map of (cond b (e ∷ filter test es) (filter test es))) (tied e ∙ ap is_eq is))
+    front_step e es Equal is some sorted rest =
+        ap (λ b. front (cond (b && true) (e ∷ from first es) (from first es))) (least e.0 some ∙ ap is_le is)
+        ∙ ap (λ b. with_front b (of e) (front (from first es))) (tied e ∙ ap is_eq is)
+        ∙ ap (λ xs. of e ∷ xs) rest
+        ∙ sym (ap (λ b. map of (cond b (e ∷ filter test es) (filter test es))) (tied e ∙ ap is_eq is))
+    front_step e es Greater is some sorted rest =
+        ap (λ b. front (cond (b && true) (e ∷ from first es) (from first es))) (least e.0 some ∙ ap is_le is)
+        ∙ rest
+        ∙ sym (ap (λ b. map of (cond b (e ∷ filter test es) (filter test es))) (tied e ∙ ap is_eq is))
+
+    -- they are all that pass
+    front-all : (es : Members) → IsStrictlySortedBy member_cmp (keys_of es) → AreMembers es → front (from first es) ≡ map of (filter test es)
+    front-all [] sorted are = refl
+    front-all (e ∷ es) sorted are = front_step e es (cmp p (part e.0)) refl are.0.0 sorted (front-all es (sorted_tail member_cmp e.0 (keys_of es) sorted) are.1)
+
+-- ---- the members of a group
+
+abbrev pub in_group : Rid → Counted → Bool
+in_group g e = same_id e.0.0 g
+
+abbrev pub weighed : Counted → Rid × ℕ
+weighed e = (e.0.1, e.0.2)
+
+abbrev pub group_front : Rid → Members → List (Rid × ℕ)
+group_front g es = front (in_group g) weighed es
+
+group_least : (g : Rid) (k : Member) → 0 < k.2 → is_le (member_cmp (first_of g) k) ≡ is_le (rid_cmp g k.0)
+group_least g k some =
+    le_then (ordering_then (rid_cmp g k.0) (rid_cmp (record { 0 = 0 }) k.1)) (nat_cmp 1 k.2) (is_least 1 k.2 (omega (arith, some)))
+    ∙ le_then (rid_cmp g k.0) (rid_cmp (record { 0 = 0 }) k.1) (is_least 0 k.1.0 (omega arith))
+
+group_rises : (a b : Member) → member_cmp a b ≡ Less → is_le (rid_cmp a.0 b.0) ≡ true
+group_rises a b less = le_first (rid_cmp a.0 b.0) (rid_cmp a.1 b.1) (le_first (ordering_then (rid_cmp a.0 b.0) (rid_cmp a.1 b.1)) (nat_cmp a.2 b.2) (ap is_le less))
+
+-- the next hops at the front of the counts from the group's first on are those of the group
+pub group_front-all : (g : Rid) (es : Members) → IsStrictlySortedBy member_cmp (keys_of es) → AreMembers es → group_front g (from (first_of g) es) ≡ map weighed (filter (in_group g) es)
+group_front-all g = front-all (in_group g) weighed rid_cmp ordered_rid.total-law (λ k. k.0) g (λ e. rid_tied g e.0.0) (first_of g) (group_least g) group_rises
 
 -- where nothing is at the front of what is left, the members so far are all
-pub front-done : (g : Rid) (ms all : List Rid) (left : Members) → front g left ≡ [] → ms ++ front g left ≡ all → ms ≡ all
-front-done g ms all left none kept = sym (append-nil ms) ∙ ap (λ ns. ms ++ ns) (sym none) ∙ kept
+pub group_front-done : (g : Rid) (ms all : List (Rid × ℕ)) (left : Members) → group_front g left ≡ [] → ms ++ group_front g left ≡ all → ms ≡ all
+group_front-done g ms all left none kept = sym (append-nil ms) ∙ ap (λ ns. ms ++ ns) (sym none) ∙ kept
+
+-- ---- the weights of a next hop in a group
+
+abbrev pub with_next_hop : Rid → Rid → Counted → Bool
+with_next_hop g n e = same_id e.0.0 g && same_id e.0.1 n
+
+abbrev itself : Counted → Counted
+itself e = e
+
+pair_tied : (g n h m : Rid) → (same_id h g && same_id m n) ≡ is_eq (pair_cmp (g, n) (h, m))
+pair_tied g n h m = both_tied (same_id h g) (same_id m n) (rid_cmp g h) (rid_cmp n m) (rid_tied g h) (rid_tied n m)
+
+pair_least : (g n : Rid) (k : Member) → 0 < k.2 → is_le (member_cmp (first_with g n) k) ≡ is_le (pair_cmp (g, n) (k.0, k.1))
+pair_least g n k some = le_then (pair_cmp (g, n) (k.0, k.1)) (nat_cmp 1 k.2) (is_least 1 k.2 (omega (arith, some)))
+
+pair_rises : (a b : Member) → member_cmp a b ≡ Less → is_le (pair_cmp (a.0, a.1) (b.0, b.1)) ≡ true
+pair_rises a b less = le_first (pair_cmp (a.0, a.1) (b.0, b.1)) (nat_cmp a.2 b.2) (ap is_le less)
+
+abbrev heads : (Counted → Bool) → Members → Bool
+heads test [] = false
+heads test (e ∷ es) = test e
+
+some_front : (test : Counted → Bool) (e : Counted) (es : List Counted) (b : Bool) → test e ≡ b → test e ≡ list_any test (with_front b e es)
+some_front test e es true is = is ∙ sym (ap (λ b. b || list_any test es) is)
+some_front test e es false is = is
+
+heads-front : (test : Counted → Bool) (es : Members) → heads test es ≡ list_any test (front test itself es)
+heads-front test [] = refl
+heads-front test (e ∷ es) = some_front test e (front test itself es) (test e) refl
+
+some_filter : (test : Counted → Bool) (e : Counted) (es rest : Members) (b : Bool) → test e ≡ b → list_any test (map itself rest) ≡ list_any test es → list_any test (map itself (cond b (e ∷ rest) rest)) ≡ (test e || list_any test es)
+some_filter test e es rest true is same = ap (λ b. test e || b) same
+some_filter test e es rest false is same = same ∙ sym (ap (λ b. b || list_any test es) is)
+
+any-filter : (test : Counted → Bool) (es : Members) → list_any test (map itself (filter test es)) ≡ list_any test es
+any-filter test [] = refl
+any-filter test (e ∷ es) = some_filter test e es (filter test es) (test e) refl (any-filter test es)
+
+-- the first from the least on has the next hop where one has it
+pub heads-any : (g n : Rid) (es : Members) → IsStrictlySortedBy member_cmp (keys_of es) → AreMembers es → heads (with_next_hop g n) (from (first_with g n) es) ≡ has_member es g n
+heads-any g n es sorted are =
+    heads-front (with_next_hop g n) (from (first_with g n) es)
+    ∙ ap (list_any (with_next_hop g n)) (front-all (with_next_hop g n) itself pair_cmp pair_total first_two (g, n) (λ e. pair_tied g n e.0.0 e.0.1) (first_with g n) (pair_least g n) pair_rises es sorted are)
+    ∙ any-filter (with_next_hop g n) es
+
+-- what the first says of all, where there is one and where there is none
+pub first-says : (g n : Rid) (es rest : Members) (e : Counted) → IsStrictlySortedBy member_cmp (keys_of es) → AreMembers es → from (first_with g n) es ≡ e ∷ rest → (same_id e.0.0 g && same_id e.0.1 n) ≡ has_member es g n
+first-says g n es rest e sorted are is = sym (ap (heads (with_next_hop g n)) is) ∙ heads-any g n es sorted are
+
+pub none-says : (g n : Rid) (es : Members) → IsStrictlySortedBy member_cmp (keys_of es) → AreMembers es → from (first_with g n) es ≡ [] → false ≡ has_member es g n
+none-says g n es sorted are is = sym (ap (heads (with_next_hop g n)) is) ∙ heads-any g n es sorted are

@@ -1,97 +1,108 @@
 -- the members of a group: by the objects, and by the marks that stand
-use Rattle.std.proofs.Common.{◌≡◌, nat_lt, Bool, true, false, cond, ◌||◌, ◌&&◌, List, [], ◌∷◌, if◌then◌else◌, refl, sym, ap, ◌∙◌}
-use Rattle.std.specs.BTreeSet.{insert_key}
+use Rattle.std.proofs.Common.{◌≡◌, ℕ, ◌==◌, nat_lt, Bool, true, false, cond, ◌||◌, ◌&&◌, List, [], ◌∷◌, if◌then◌else◌, refl, sym, ap, ap₂, ◌∙◌}
 use Rattle.std.specs.List.{list_any}
-use Rattle.std.proofs.lemmas.Bool.{false≢true, eq-eqb}
+use Rattle.std.proofs.lemmas.Bool.{and_parts, eq-eqb, eqb-true, or_parts}
 use Rattle.sai_types.specs.declared.ids.Rid.{Rid}
 use Rattle.sai_types.specs.declared.body.Body.{Body}
 use Rattle.sai_types.specs.declared.body.Body.TheVariants as body
 use Rattle.sai_types.specs.Objects.{Objects}
 use Rattle.sai_types.specs.Refusal.{clash, same_id}
-use Rattle.sai_types.specs.Named.{both, hop_cmp, hops_among, hops_at, next_hop_at, with_member}
+use Rattle.sai_types.specs.Named.{both, hops_among, hops_at, put_hop, whop_at, with_member}
 use Rattle.sai_types.proofs.Apart.{same_id-symm}
 use Rattle.sai_types.proofs.Exact.{id-exact}
 use Rattle.chip_names.specs.Members.{hops_by}
 use Rattle.sai_chip.specs.declared.mark.TakenMark.TheVariants as mark
-use Rattle.sai_chip.specs.Tally.{Tally, count_at}
+use Rattle.sai_chip.specs.Tally.{AreMembers, Tally, count_at, has_member, same_member}
 use Rattle.sai_chip.specs.Marks.{IsCounted, has_mark, is_claimed}
-use Rattle.sai_chip.proofs.Clashes.{clash-group_member}
-use Rattle.sai_chip.proofs.HopSets.{hops_by-same, or_true}
+use Rattle.sai_chip.proofs.Clashes.{clash-member, is_member, mark-member, never-clashes}
+use Rattle.sai_chip.proofs.HopSets.{hops_by-same}
+use Rattle.sai_chip.proofs.MemberCounts.{has_member-none, has_member-some}
+use Rattle.sai_chip.proofs.Passing.{any-found, any-there, both_ways}
 use Rattle.sai_chip.proofs.Standing.{positive-standing}
 
 pub same_id-refl : (a : Rid) → same_id a a ≡ true
 same_id-refl a = eq-eqb a.0 a.0 refl
 
-pub both_ways : (a b : Bool) → (a ≡ true → b ≡ true) → (b ≡ true → a ≡ true) → a ≡ b
-both_ways true true f g = refl
-both_ways false false f g = refl
-both_ways true false f g = absurd (false≢true (f refl))
-both_ways false true f g = absurd (false≢true (g refl))
+same_member-refl : (m : Rid × ℕ) → same_member m m ≡ true
+same_member-refl m = ap (λ b. b && m.1 == m.1) (same_id-refl m.0) ∙ eq-eqb m.1 m.1 refl
 
--- an identifier of a list that passes a test
-witness_step : (p : Rid → Bool) (x : Rid) (xs : List Rid) (b : Bool) → p x ≡ b → (list_any p xs ≡ true → (n : Rid) × (p n ≡ true) × (list_any (same_id n) xs ≡ true)) → (b || list_any p xs) ≡ true → (n : Rid) × (p n ≡ true) × (list_any (same_id n) (x ∷ xs) ≡ true)
-witness_step p x xs true e f h = (x, e, ap (λ b. b || list_any (same_id x) xs) (same_id-refl x))
-witness_step p x xs false e f h = let one = f h in (one.0, one.1, ap (λ b. same_id one.0 x || b) one.2 ∙ or_true (same_id one.0 x))
+same_member-exact : (m n : Rid × ℕ) → same_member m n ≡ true → m ≡ n
+same_member-exact m n same =
+    let parts = and_parts (same_id m.0 n.0) (m.1 == n.1) same in
+    let made : Rid → ℕ → Rid × ℕ = λ r w. (r, w) in
+    ap₂ made (id-exact m.0 n.0 parts.0) (eqb-true m.1 n.1 parts.1)
 
-witness : (p : Rid → Bool) (xs : List Rid) → list_any p xs ≡ true → (n : Rid) × (p n ≡ true) × (list_any (same_id n) xs ≡ true)
-witness p [] h = absurd (false≢true h)
-witness p (x ∷ xs) h = witness_step p x xs (p x) refl (witness p xs) h
+passed : (xs ys : List (Rid × ℕ)) → ((m : Rid × ℕ) → list_any (same_member m) xs ≡ list_any (same_member m) ys) → (p : Rid × ℕ → Bool) → list_any p xs ≡ true → list_any p ys ≡ true
+passed xs ys same p some =
+    let one = any-found p xs some in
+    let there = any-found (same_member one.0) ys (sym (same one.0) ∙ any-there (same_member one.0) one.0 xs one.1 (same_member-refl one.0)) in
+    any-there p there.0 ys there.1 (ap p (sym (same_member-exact one.0 there.0 there.2)) ∙ one.2)
 
-carried_step : (p : Rid → Bool) (n x : Rid) (xs : List Rid) (b : Bool) → same_id n x ≡ b → p n ≡ true → (list_any (same_id n) xs ≡ true → list_any p xs ≡ true) → (b || list_any (same_id n) xs) ≡ true → (p x || list_any p xs) ≡ true
-carried_step p n x xs true e passes f h = ap (λ b. b || list_any p xs) (ap p (sym (id-exact n x e)) ∙ passes)
-carried_step p n x xs false e passes f h = ap (λ b. p x || b) (f h) ∙ or_true (p x)
+-- lists with the same next hops pass the same tests
+pub same-any : (xs ys : List (Rid × ℕ)) → ((m : Rid × ℕ) → list_any (same_member m) xs ≡ list_any (same_member m) ys) → (p : Rid × ℕ → Bool) → list_any p xs ≡ list_any p ys
+same-any xs ys same p = both_ways (list_any p xs) (list_any p ys) (passed xs ys same p) (passed ys xs (λ m. sym (same m)) p)
 
-any_passing : (p : Rid → Bool) (n : Rid) (xs : List Rid) → p n ≡ true → list_any (same_id n) xs ≡ true → list_any p xs ≡ true
-any_passing p n [] passes h = absurd (false≢true h)
-any_passing p n (x ∷ xs) passes h = carried_step p n x xs (same_id n x) refl passes (any_passing p n xs passes) h
-
--- lists with the same identifiers pass the same tests
-pub same-any : (xs ys : List Rid) → ((n : Rid) → list_any (same_id n) xs ≡ list_any (same_id n) ys) → (p : Rid → Bool) → list_any p xs ≡ list_any p ys
-same-any xs ys same p =
-    both_ways (list_any p xs) (list_any p ys)
-    (λ h. let one = witness p xs h in any_passing p one.0 ys one.1 (sym (same one.0) ∙ one.2))
-    (λ h. let one = witness p ys h in any_passing p one.0 xs one.1 (same one.0 ∙ one.2))
-
-abbrev with_id : Rid → Body Rid → List Rid → List Rid
-with_id g (body.GroupMember group next_hop) ns = if same_id group g then next_hop ∷ ns else ns
+abbrev with_id : Rid → Body Rid → List (Rid × ℕ) → List (Rid × ℕ)
+with_id g (body.GroupMember group next_hop weight) ns = if same_id group g then (next_hop, weight) ∷ ns else ns
 with_id g _ ns = ns
 
 -- the next hops of a group's members among these objects
-abbrev ids_in : Rid → Objects → List Rid
+abbrev ids_in : Rid → Objects → List (Rid × ℕ)
 ids_in g [] = []
 ids_in g (o ∷ os) = with_id g o.1 (ids_in g os)
 
-hops_if : (objects : Objects) (n : Rid) (ns : List Rid) (b : Bool) → cond b (both (insert_key hop_cmp) (hops_by objects ns) (next_hop_at objects n)) (hops_by objects ns) ≡ hops_by objects (cond b (n ∷ ns) ns)
-hops_if objects n ns true = refl
-hops_if objects n ns false = refl
+hops_if : (objects : Objects) (n : Rid) (w : ℕ) (ns : List (Rid × ℕ)) (b : Bool) → cond b (both put_hop (hops_by objects ns) (whop_at objects n w)) (hops_by objects ns) ≡ hops_by objects (cond b ((n, w) ∷ ns) ns)
+hops_if objects n w ns true = refl
+hops_if objects n w ns false = refl
 
-hops_step : (objects : Objects) (g : Rid) (b : Body Rid) (ns : List Rid) → with_member objects g b (hops_by objects ns) ≡ hops_by objects (with_id g b ns)
-hops_step objects g (body.GroupMember group next_hop) ns = hops_if objects next_hop ns (same_id group g)
+hops_step : (objects : Objects) (g : Rid) (b : Body Rid) (ns : List (Rid × ℕ)) → with_member objects g b (hops_by objects ns) ≡ hops_by objects (with_id g b ns)
+hops_step objects g (body.GroupMember group next_hop weight) ns = hops_if objects next_hop weight ns (same_id group g)
 hops_step objects g _ ns = refl
 
 hops_among-by : (objects : Objects) (g : Rid) (os : Objects) → hops_among objects g os ≡ hops_by objects (ids_in g os)
 hops_among-by objects g [] = refl
 hops_among-by objects g (o ∷ os) = ap (with_member objects g o.1) (hops_among-by objects g os) ∙ hops_step objects g o.1 (ids_in g os)
 
-any_if : (n m : Rid) (ns : List Rid) (b : Bool) → ((b && same_id n m) || list_any (same_id n) ns) ≡ list_any (same_id n) (cond b (m ∷ ns) ns)
+any_if : (n m : Rid × ℕ) (ns : List (Rid × ℕ)) (b : Bool) → ((b && same_member n m) || list_any (same_member n) ns) ≡ list_any (same_member n) (cond b (m ∷ ns) ns)
 any_if n m ns true = refl
 any_if n m ns false = refl
 
-clash_step : (g n : Rid) (b : Body Rid) (ns : List Rid) → (clash (body.GroupMember g n) b || list_any (same_id n) ns) ≡ list_any (same_id n) (with_id g b ns)
-clash_step g n (body.GroupMember h m) ns = ap (λ t. (t && same_id n m) || list_any (same_id n) ns) (same_id-symm g h) ∙ any_if n m ns (same_id h g)
-clash_step g n _ ns = refl
+member_step : (g n : Rid) (w : ℕ) (b : Body Rid) (ns : List (Rid × ℕ)) → (is_member g n w b || list_any (same_member (n, w)) ns) ≡ list_any (same_member (n, w)) (with_id g b ns)
+member_step g n w (body.GroupMember h m v) ns = ap (λ t. (t && same_member (n, w) (m, v)) || list_any (same_member (n, w)) ns) (same_id-symm g h) ∙ any_if (n, w) (m, v) ns (same_id h g)
+member_step g n w _ ns = refl
 
 -- the mark of a member stands where an object is that member
-stands-id : (g n : Rid) (os : Objects) → is_claimed (mark.GroupMember g n) os ≡ list_any (same_id n) (ids_in g os)
-stands-id g n [] = refl
-stands-id g n (o ∷ os) =
-    ap (λ b. has_mark (mark.GroupMember g n) o.1 || b) (stands-id g n os)
-    ∙ ap (λ b. b || list_any (same_id n) (ids_in g os)) (sym (clash-group_member g n o.1))
-    ∙ clash_step g n o.1 (ids_in g os)
+stands-id : (g n : Rid) (w : ℕ) (os : Objects) → is_claimed (mark.GroupMember g n w) os ≡ list_any (same_member (n, w)) (ids_in g os)
+stands-id g n w [] = refl
+stands-id g n w (o ∷ os) =
+    ap (λ b. has_mark (mark.GroupMember g n w) o.1 || b) (stands-id g n w os)
+    ∙ ap (λ b. b || list_any (same_member (n, w)) (ids_in g os)) (mark-member g n w o.1)
+    ∙ member_step g n w o.1 (ids_in g os)
 
 -- the members by the marks that are counted give the hops of the group
-pub hops-of_members : (objects : Objects) (counts : Tally) (g : Rid) (ids : List Rid) → IsCounted objects counts → ((n : Rid) → list_any (same_id n) ids ≡ nat_lt 0 (count_at counts (mark.GroupMember g n))) → hops_by objects ids ≡ hops_at objects g
+pub hops-of_members : (objects : Objects) (counts : Tally) (g : Rid) (ids : List (Rid × ℕ)) → IsCounted objects counts → ((m : Rid × ℕ) → list_any (same_member m) ids ≡ nat_lt 0 (count_at counts (mark.GroupMember g m.0 m.1))) → hops_by objects ids ≡ hops_at objects g
 hops-of_members objects counts g ids counted members =
     hops_by-same objects ids (ids_in g objects)
-    (same-any ids (ids_in g objects) (λ n. members n ∙ ap (nat_lt 0) (counted.each (mark.GroupMember g n)) ∙ positive-standing (mark.GroupMember g n) objects ∙ stands-id g n objects))
+    (same-any ids (ids_in g objects) (λ m. members m ∙ ap (nat_lt 0) (counted.each (mark.GroupMember g m.0 m.1)) ∙ positive-standing (mark.GroupMember g m.0 m.1) objects ∙ stands-id g m.0 m.1 objects))
     ∙ sym (hops_among-by objects g objects)
+
+none_clashes : (g n : Rid) (v : ℕ) (objects : Objects) → ((w : ℕ) → is_claimed (mark.GroupMember g n w) objects ≡ false) → list_any (λ o. clash (body.GroupMember g n v) o.1) objects ≡ false
+none_clashes g n v [] none = refl
+none_clashes g n v (o ∷ os) none =
+    let parts = λ (w : ℕ). or_parts (has_mark (mark.GroupMember g n w) o.1) (is_claimed (mark.GroupMember g n w) os) (none w) in
+    ap (λ b. b || list_any (λ o. clash (body.GroupMember g n v) o.1) os) (never-clashes g n v o.1 (λ w. sym (mark-member g n w o.1) ∙ (parts w).0))
+    ∙ none_clashes g n v os (λ w. (parts w).1)
+
+-- a member clashes where its next hop is counted as a member of its group, with whatever weight
+pub clashes-member : (objects : Objects) (counts : Tally) (g n : Rid) (v : ℕ) → IsCounted objects counts → AreMembers counts.group_members → has_member counts.group_members g n ≡ list_any (λ o. clash (body.GroupMember g n v) o.1) objects
+clashes-member objects counts g n v counted are = by (has_member counts.group_members g n) refl
+  where
+    stands : (w : ℕ) → nat_lt 0 (count_at counts (mark.GroupMember g n w)) ≡ is_claimed (mark.GroupMember g n w) objects
+    stands w = ap (nat_lt 0) (counted.each (mark.GroupMember g n w)) ∙ positive-standing (mark.GroupMember g n w) objects
+
+    by : (b : Bool) → has_member counts.group_members g n ≡ b → b ≡ list_any (λ o. clash (body.GroupMember g n v) o.1) objects
+    by true some =
+        let one = has_member-some g n counts.group_members are some in
+        let there = any-found (λ o. has_mark (mark.GroupMember g n one.0) o.1) objects (sym (stands one.0) ∙ one.1) in
+        sym (any-there (λ o. clash (body.GroupMember g n v) o.1) there.0 objects there.1 (clash-member g n v one.0 there.0.1 (sym (mark-member g n one.0 there.0.1) ∙ there.2)))
+    by false none = sym (none_clashes g n v objects (λ w. sym (stands w) ∙ has_member-none g n w counts.group_members are none))

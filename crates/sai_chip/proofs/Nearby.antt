@@ -36,9 +36,8 @@ use Rattle.chip_names.proofs.SameNames.{map-things_among}
 use Rattle.sai_chip.specs.Tally.{neighbor_cmp}
 use Rattle.sai_chip.specs.Bodies.{HaveIdKinds, owned, reached, routed, objects_in}
 use Rattle.sai_chip.proofs.Changed.{at-neighbor, neighbor_exact}
-use Rattle.sai_chip.proofs.HopSets.{or_true}
 use Rattle.sai_chip.proofs.Looked.{mac_other, passes-map, past, past-ids, past-last}
-use Rattle.sai_chip.proofs.Members.{both_ways}
+use Rattle.sai_chip.proofs.Passing.{both_ways, or_true}
 
 neighbor_total : IsTotalOrder neighbor_cmp
 neighbor_total = then_total (on_total (λ (p : Rid × Ip). p.0) ordered_rid.total-law) (on_total (λ (p : Rid × Ip). p.1) ordered_ip.total-law)

@@ -71,7 +71,7 @@ kind_in-key k (body.OwnAddress ip) = refl
 kind_in-key k (body.Neighbor rif ip mac) = refl
 kind_in-key k (body.NextHop rif ip) = refl
 kind_in-key k body.Group = refl
-kind_in-key k (body.GroupMember group next_hop) = refl
+kind_in-key k (body.GroupMember group next_hop weight) = refl
 kind_in-key k (body.Route prefix to) = kind_in-target k to
 
 kind_in-marks : (k : Kind) (b : Body Rid) → claims (mark.Of k) (marks_of b) ≡ cond (is_of k b) 1 0

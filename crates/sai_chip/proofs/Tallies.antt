@@ -9,7 +9,7 @@ use Rattle.sai_types.specs.declared.body.RifOn.{RifOn}
 use Rattle.chip_names.specs.Naming.{rid_cmp}
 use Rattle.sai_chip.specs.declared.mark.TakenMark.{TakenMark}
 use Rattle.sai_chip.specs.declared.mark.TakenMark.TheVariants as mark
-use Rattle.sai_chip.specs.Tally.{Tally, count_in, count_at, is_mark, kind_cmp, rif_on_cmp, pair_cmp, neighbor_cmp}
+use Rattle.sai_chip.specs.Tally.{Member, Tally, count_in, count_at, is_mark, kind_cmp, member_cmp, rif_on_cmp, pair_cmp, neighbor_cmp}
 
 -- one more, or one less, where a test passes
 abbrev pub more : ℕ → Bool → ℕ
@@ -57,6 +57,6 @@ module _ (f : ℕ → Bool → ℕ) (none : (n : ℕ) → f n false ≡ n) (t : 
   with_next_hops r ip new h (mark.NextHop x y) = h (x, y)
   with_next_hops r ip new h m = sym (none (count_at t m))
 
-  pub with_group_members : (g n : Rid) (new : List ((Rid × Rid) × ℕ)) → ((x : Rid × Rid) → count_in pair_cmp new x ≡ f (count_in pair_cmp t.group_members x) (is_at (pair_cmp (g, n)) x)) → (m : TakenMark) → count_at (record t { group_members = new }) m ≡ f (count_at t m) (is_mark (mark.GroupMember g n) m)
-  with_group_members g n new h (mark.GroupMember x y) = h (x, y)
-  with_group_members g n new h m = sym (none (count_at t m))
+  pub with_group_members : (g n : Rid) (w : ℕ) (new : List (Member × ℕ)) → ((x : Member) → count_in member_cmp new x ≡ f (count_in member_cmp t.group_members x) (is_at (member_cmp (g, n, w)) x)) → (m : TakenMark) → count_at (record t { group_members = new }) m ≡ f (count_at t m) (is_mark (mark.GroupMember g n w) m)
+  with_group_members g n w new h (mark.GroupMember x y z) = h (x, y, z)
+  with_group_members g n w new h m = sym (none (count_at t m))

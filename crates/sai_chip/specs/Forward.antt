@@ -1,27 +1,29 @@
 -- Where a simulated chip sends packets, as its caller sees it. Own.
 use Rattle.std.specs.Prelude.{ℕ, Bool, true, nat_lt, List, [], ◌∷◌, map, Option, Some, None, option_map, if◌then◌else◌}
-use Rattle.std.specs.BTreeMap.{insert_entry}
+use Rattle.std.specs.Ordering.{match_ordering}
 use Rattle.swss_types.specs.declared.address.Ip.{Ip}
 use Rattle.swss_types.specs.declared.address.Mac.{Mac}
 use Rattle.swss_types.specs.declared.address.Prefix.{Prefix}
 use Rattle.sai_types.specs.declared.hop.Hop.{Hop}
+use Rattle.sai_types.specs.declared.weight.WHop.{WHop}
 use Rattle.sai_types.specs.declared.thing.Goal.{Goal}
 use Rattle.sai_types.specs.declared.thing.Thing.TheVariants as thing
 use Rattle.swss_types.specs.Packets.{packet_to}
 use Rattle.sai_types.specs.Forwarding.{Forwarding, decision_of, forwarding_of, hop_mac, with_route}
 use Rattle.sai_types.specs.Forwarding as forwarding
+use Rattle.sai_types.specs.Hop.{heavier}
 use Rattle.sai_types.specs.Named.{hop_cmp, named, those}
 use Rattle.sai_types.specs.Objects.{Objects}
 use Rattle.sai_chip.specs.declared.forward.Forward.{Forward}
 use Rattle.sai_chip.specs.declared.forward.Forward.TheVariants as forward
 
 -- a hop with its Ethernet address in front of others, where it has one
-abbrev pub with_way : Hop → Option Mac → List (Hop × Mac) → List (Hop × Mac)
+abbrev pub with_way : WHop → Option Mac → List (WHop × Mac) → List (WHop × Mac)
 with_way hop None ways = ways
 with_way hop (Some mac) ways = (hop, mac) ∷ ways
 
 -- the hops that have an Ethernet address; in a state that legal calls made, each has one
-abbrev pub ways_of : List (Hop × Option Mac) → List (Hop × Mac)
+abbrev pub ways_of : List (WHop × Option Mac) → List (WHop × Mac)
 ways_of [] = []
 ways_of (h ∷ hs) = with_way h.0 h.1 (ways_of hs)
 
@@ -42,16 +44,26 @@ is_longer len None = true
 is_longer len (Some best) = nat_lt best.0 len
 
 -- a hop with its Ethernet address, where it has one
-abbrev pub way_of : Objects → Hop → Hop × Option Mac
-way_of objects hop = (hop, hop_mac (those (named objects)) hop)
+abbrev pub way_of : Objects → WHop → WHop × Option Mac
+way_of objects whop = (whop, hop_mac (those (named objects)) whop.hop)
 
 -- the same of several, where there are some
-abbrev pub ways_by : Objects → Option (List Hop) → Option (List (Hop × Option Mac))
+abbrev pub ways_by : Objects → Option (List WHop) → Option (List (WHop × Option Mac))
 ways_by objects hops = option_map (map (way_of objects)) hops
 
--- hops with one more in its place
-abbrev pub more_ways : List (Hop × Option Mac) → Hop × Option Mac → List (Hop × Option Mac)
-more_ways ways way = insert_entry hop_cmp ways way.0 way.1
+-- weights and Ethernet addresses by their hops, as ways
+abbrev pub ways_in : List (Hop × (ℕ × Option Mac)) → List (WHop × Option Mac)
+ways_in entries = map (λ e. (record { hop = e.0; weight = e.1.0 }, e.1.1)) entries
+
+-- the weight of a hop that is put beside what is there of it
+abbrev pub weight_beside : Option (ℕ × Option Mac) → ℕ → ℕ
+weight_beside None weight = weight
+weight_beside (Some there) weight = heavier there.0 weight
+
+-- hops with one more in its place; of one that is there the greater weight is kept
+abbrev pub more_ways : List (WHop × Option Mac) → WHop × Option Mac → List (WHop × Option Mac)
+more_ways [] way = way ∷ []
+more_ways (x ∷ xs) way = match_ordering (hop_cmp way.0.hop x.0.hop) (way ∷ x ∷ xs) ((record { hop = x.0.hop; weight = heavier x.0.weight way.0.weight }, way.1) ∷ xs) (x ∷ more_ways xs way)
 
 -- of the best route so far and the best of the others, where the better one sends
 abbrev pub pick : Objects → Option (ℕ × Forward) → Option (Prefix × Goal) → Option Forward

@@ -40,7 +40,7 @@ key_marks (body.OwnAddress ip) = []
 key_marks (body.Neighbor rif ip mac) = mark.RefersTo rif ∷ []
 key_marks (body.NextHop rif ip) = mark.NextHop rif ip ∷ mark.RefersTo rif ∷ []
 key_marks body.Group = []
-key_marks (body.GroupMember group next_hop) = mark.GroupMember group next_hop ∷ mark.RefersTo group ∷ mark.RefersTo next_hop ∷ []
+key_marks (body.GroupMember group next_hop weight) = mark.GroupMember group next_hop weight ∷ mark.RefersTo group ∷ mark.RefersTo next_hop ∷ []
 key_marks (body.Route prefix to) = target_marks to
 
 -- what a body takes up

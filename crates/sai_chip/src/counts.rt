@@ -1,18 +1,19 @@
 // How often each mark stands.
-ghost use Rattle.std.specs.Prelude.{◌≡◌, [], ◌∷◌, ◌+◌, ◌-◌, nat_lt, IfOk, OnOk, OnErr, option_copied, if◌then◌else◌};
+ghost use Rattle.std.specs.Prelude.{◌≡◌, ℕ, [], ◌∷◌, ◌+◌, ◌-◌, nat_lt, IfOk, OnOk, OnErr, option_copied, if◌then◌else◌};
 ghost use Rattle.std.specs.List.{list_any};
 ghost use Rattle.sai_types.specs.declared.ids.Rid.{Rid};
-ghost use Rattle.sai_types.specs.Refusal.{same_id};
 ghost use Rattle.sai_chip.specs.Marks.{key_marks, lane_marks, marks_if, marks_of, target_marks};
-ghost use Rattle.sai_chip.specs.Tally.{count_at, empty_tally, is_mark, claims};
+ghost use Rattle.sai_chip.specs.Tally.{AreMembers, count_at, empty_tally, has_member, is_mark, claims, same_member};
 ghost use Rattle.sai_chip.specs.declared.mark.TakenMark.{TakenMark};
 
 use crate::mark::TakenMark;
 use crate::marks::base;
-use crate::membership::{GroupMembers, count_member, lower_member, members_of, raise_member};
+use crate::membership::{
+    GroupMembers, count_member, has_member, lower_member, members_of, raise_member,
+};
 use crate::tally::{count, lower, raise};
 use late_maps::LateMap;
-use sai_types::{Body, Kind, Rid, RifOn, To};
+use sai_types::{Body, Kind, Rid, RifOn, To, Weight};
 use std::alloc::Global;
 use std::collections::BTreeMap;
 use std::marker::Model;
@@ -35,7 +36,7 @@ pub struct Counts {
 }
 
 impl Model for Counts {
-    ghost use Rattle.sai_chip.specs.Tally.{Tally};
+    ghost use Rattle.sai_chip.specs.Tally.{AreMembers, Tally};
 
     ghost Value = { Tally };
 
@@ -50,6 +51,8 @@ impl Model for Counts {
       next_hops = c.next_hops;
       group_members = c.group_members.entries;
     } };
+
+    ghost invariant = { λ c. AreMembers c.group_members.entries };
 }
 
 impl Counts {
@@ -83,8 +86,8 @@ impl Counts {
             TakenMark::VlanMember(vlan, port) => count(&self.vlan_members, &(*vlan, *port)),
             TakenMark::Rif(on) => count(&self.rifs, on),
             TakenMark::NextHop(rif, ip) => count(&self.next_hops, &(*rif, *ip)),
-            TakenMark::GroupMember(group, next_hop) => {
-                count_member(&self.group_members, *group, *next_hop)
+            TakenMark::GroupMember(group, next_hop, weight) => {
+                count_member(&self.group_members, &(*group, *next_hop, *weight))
             }
         }
     }
@@ -103,8 +106,8 @@ impl Counts {
             TakenMark::VlanMember(vlan, port) => raise(&mut self.vlan_members, (vlan, port)),
             TakenMark::Rif(on) => raise(&mut self.rifs, on),
             TakenMark::NextHop(rif, ip) => raise(&mut self.next_hops, (rif, ip)),
-            TakenMark::GroupMember(group, next_hop) => {
-                raise_member(&mut self.group_members, group, next_hop)
+            TakenMark::GroupMember(group, next_hop, weight) => {
+                raise_member(&mut self.group_members, (group, next_hop, weight))
             }
         }
     }
@@ -122,8 +125,8 @@ impl Counts {
             TakenMark::VlanMember(vlan, port) => lower(&mut self.vlan_members, (vlan, port)),
             TakenMark::Rif(on) => lower(&mut self.rifs, on),
             TakenMark::NextHop(rif, ip) => lower(&mut self.next_hops, (rif, ip)),
-            TakenMark::GroupMember(group, next_hop) => {
-                lower_member(&mut self.group_members, group, next_hop);
+            TakenMark::GroupMember(group, next_hop, weight) => {
+                lower_member(&mut self.group_members, (group, next_hop, weight));
             }
         }
     }
@@ -186,8 +189,12 @@ impl Counts {
             Body::Rif { on } => self.raise_on(&TakenMark::Rif(*on), base(*on)),
             Body::Neighbor { rif, .. } => self.raise(TakenMark::RefersTo(*rif)),
             Body::NextHop { rif, ip } => self.raise_on(&TakenMark::NextHop(*rif, *ip), *rif),
-            Body::GroupMember { group, next_hop } => self.raise_between(
-                &TakenMark::GroupMember(*group, *next_hop),
+            Body::GroupMember {
+                group,
+                next_hop,
+                weight,
+            } => self.raise_between(
+                &TakenMark::GroupMember(*group, *next_hop, *weight),
                 *group,
                 *next_hop,
             ),
@@ -288,8 +295,12 @@ impl Counts {
                 TakenMark::NextHop(*rif, *ip),
                 TakenMark::RefersTo(*rif),
             ]),
-            Body::GroupMember { group, next_hop } => self.take_away(&[
-                TakenMark::GroupMember(*group, *next_hop),
+            Body::GroupMember {
+                group,
+                next_hop,
+                weight,
+            } => self.take_away(&[
+                TakenMark::GroupMember(*group, *next_hop, *weight),
                 TakenMark::RefersTo(*group),
                 TakenMark::RefersTo(*next_hop),
             ]),
@@ -306,9 +317,17 @@ impl Counts {
         }
     }
 
-    /// The next hops that are members of the group, each once.
-    pub fn members(&self, alloc: Global, group: Rid) -> Result<Vec<Rid>, OutOfMemory>
-        ensures { IfOk result (λ members. (n : Rid) → list_any (same_id n) members.items ≡ nat_lt 0 (count_at self.now (TakenMark.GroupMember group n))) }
+    /// Whether the next hop is a member of the group, with whatever weight. The members are counted.
+    pub fn has_member(&self, group: Rid, next_hop: Rid) -> bool
+        ensures value { result ≡ has_member self.now.group_members group next_hop }
+        ensures counted { AreMembers self.now.group_members }
+    {
+        has_member(&self.group_members, group, next_hop)
+    }
+
+    /// The next hops that are members of the group, with their weights.
+    pub fn members(&self, alloc: Global, group: Rid) -> Result<Vec<(Rid, Weight)>, OutOfMemory>
+        ensures { IfOk result (λ members. (m : Rid × ℕ) → list_any (same_member m) members.items ≡ nat_lt 0 (count_at self.now (TakenMark.GroupMember group m.0 m.1))) }
     {
         members_of(alloc, &self.group_members, group)
     }

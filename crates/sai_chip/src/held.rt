@@ -1,6 +1,7 @@
 // The objects that a chip holds.
-ghost use Rattle.std.specs.Prelude.{◌≡◌, [], OnOk, OnErr, IfOk, option_copied};
+ghost use Rattle.std.specs.Prelude.{◌≡◌, ℕ, [], OnOk, OnErr, IfOk, option_copied};
 ghost use Rattle.std.specs.BTreeMap.{insert_entry, is_at};
+ghost use Rattle.std.specs.List.{list_any};
 ghost use Rattle.std.specs.Map.{remove_entry};
 ghost use Rattle.std.specs.Option.{is_some, option_and_then};
 ghost use Rattle.sai_types.specs.After.{after_set, entry_of};
@@ -9,6 +10,7 @@ ghost use Rattle.chip_names.specs.Members.{HasHops, group_named_by, hops_by};
 ghost use Rattle.sai_chip.specs.Sim.{AppendsListed};
 ghost use Rattle.sai_types.specs.Named.{hops_at, thing_of};
 ghost use Rattle.sai_types.specs.Objects.{body_at, entry_cmp, used};
+ghost use Rattle.sai_types.specs.Refusal.{clash};
 ghost use Rattle.sai_chip.specs.Marks.{is_claimed};
 ghost use Rattle.sai_chip.specs.Replay.{thing_at};
 
@@ -17,7 +19,7 @@ use crate::counts::Counts;
 use crate::mark::TakenMark;
 use chip_names::{GroupHops, hops_of, thing_at};
 use late_maps::LateMap;
-use sai_types::{Attr, Body, Entry, Hops, Kind, ListAnswer, Object, Rid, Thing, To};
+use sai_types::{Attr, Body, Entry, Hops, Kind, ListAnswer, Object, Rid, Thing, To, Weight};
 use std::alloc::Global;
 use std::marker::Model;
 use swss_types::OutOfMemory;
@@ -191,8 +193,15 @@ impl Held {
         Ok(groups)
     }
 
-    /// The next hops that are members of the group, each once.
-    pub fn members(&self, group: Rid) -> Result<Vec<Rid>, OutOfMemory>
+    /// Whether a next hop is a member of the group, so that no other member of the group can have it, whatever its weight.
+    pub fn has_member(&self, group: Rid, next_hop: Rid) -> bool
+        ensures { (weight : ℕ) → result ≡ list_any (λ o. clash (Body.GroupMember group next_hop weight) o.1) self.now }
+    {
+        self.counts.has_member(group, next_hop)
+    }
+
+    /// The next hops that are members of the group, with their weights.
+    pub fn members(&self, group: Rid) -> Result<Vec<(Rid, Weight)>, OutOfMemory>
         ensures { IfOk result (λ members. hops_by self.now members.items ≡ hops_at self.now group) }
     {
         let members = self.counts.members(self.alloc, group)?;

@@ -1,5 +1,5 @@
 // What an object takes up on a chip, one mark for each.
-use sai_types::{Kind, Rid, RifOn};
+use sai_types::{Kind, Rid, RifOn, Weight};
 use swss_types::Ip;
 
 /// What an object takes up: a place among its kind, a reference to another object, its natural key, a lane. An object
@@ -22,6 +22,6 @@ pub enum TakenMark {
     Rif(RifOn<Rid>),
     /// A next hop goes through the neighbour of this interface and address.
     NextHop(Rid, Ip),
-    /// The next hop is a member of the group.
-    GroupMember(Rid, Rid),
+    /// The next hop is a member of the group, with this weight.
+    GroupMember(Rid, Rid, Weight),
 }

@@ -142,9 +142,11 @@ fn refers_well(held: &Held, body: &Body<Rid>) -> bool
         Body::NextHop { rif, ip } => {
             is_there(held, Kind::Rif, *rif) && held.stands(&Entry::Neigh(*rif, *ip))
         }
-        Body::GroupMember { group, next_hop } => {
-            is_there(held, Kind::Group, *group) && is_there(held, Kind::NextHop, *next_hop)
-        }
+        Body::GroupMember {
+            group,
+            next_hop,
+            ..
+        } => is_there(held, Kind::Group, *group) && is_there(held, Kind::NextHop, *next_hop),
         Body::Route { to, .. } => is_target(held, to),
     }
 }
@@ -168,9 +170,11 @@ fn clashes(held: &Held, body: &Body<Rid>) -> bool
         }
         Body::NextHop { rif, ip } => held.has(&TakenMark::NextHop(*rif, *ip)),
         Body::Group => false,
-        Body::GroupMember { group, next_hop } => held.has(&TakenMark::GroupMember(
-            *group, *next_hop,
-        )),
+        Body::GroupMember {
+            group,
+            next_hop,
+            ..
+        } => held.has_member(*group, *next_hop),
     }
 }
 

@@ -1,23 +1,23 @@
-// Next hops with their Ethernet addresses.
+// Next hops with their weights and Ethernet addresses.
 ghost use Rattle.std.specs.Prelude.{◌≡◌, [], ◌∷◌, ◌++◌, IfOk, OnOk, OnErr};
 
-use sai_types::Hop;
+use sai_types::WHop;
 use std::alloc::Global;
 use std::marker::Model;
 use swss_types::{Mac, OutOfMemory};
 
-/// Next hops with their Ethernet addresses.
+/// Next hops with their weights and Ethernet addresses.
 #[derive(Debug, Drop)]
 pub struct Ways {
-    ways: Vec<(Hop, Mac)>,
+    ways: Vec<(WHop, Mac)>,
 }
 
 impl Model for Ways {
     ghost use Rattle.std.specs.Prelude.{List};
-    ghost use Rattle.sai_types.specs.declared.hop.Hop.{Hop};
+    ghost use Rattle.sai_types.specs.declared.weight.WHop.{WHop};
     ghost use Rattle.swss_types.specs.declared.address.Mac.{Mac};
 
-    ghost Value = { List (Hop × Mac) };
+    ghost Value = { List (WHop × Mac) };
 
     ghost view = { λ w. w.ways.items };
 }
@@ -33,7 +33,7 @@ impl Ways {
     }
 
     /// Puts a hop last.
-    pub fn push(&mut self, way: (Hop, Mac)) -> Result<(), OutOfMemory>
+    pub fn push(&mut self, way: (WHop, Mac)) -> Result<(), OutOfMemory>
         ensures ok { OnOk result (self.new ≡ self.old ++ way ∷ []) }
         ensures err { OnErr result (self.new ≡ self.old) }
     {
@@ -51,7 +51,7 @@ impl Ways {
     }
 
     /// The hops, in order.
-    pub fn items(&self) -> &[(Hop, Mac)]
+    pub fn items(&self) -> &[(WHop, Mac)]
         ensures { result.now ≡ self.now }
     {
         self.ways.as_slice()

@@ -10,6 +10,7 @@ pub mod Maps
 pub mod Refer
 pub mod Rising
 pub mod Things
+pub mod Weights
 pub mod Whole
 pub mod Orders
 pub mod Membership

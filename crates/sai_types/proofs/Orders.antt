@@ -9,10 +9,11 @@ use Rattle.sai_types.specs.contracts.thing.ThingOrd.TheImpl as thing_ord
 use Rattle.sai_types.specs.declared.hop.Base.{Base}
 use Rattle.sai_types.specs.declared.hop.Base.TheVariants as base
 use Rattle.sai_types.specs.declared.hop.Hop.{Hop}
+use Rattle.sai_types.specs.declared.weight.WHop.{WHop}
 use Rattle.sai_types.specs.declared.thing.Thing.{Thing}
 use Rattle.sai_types.specs.declared.thing.Thing.TheVariants as thing
-use Rattle.sai_types.specs.Hop.{hop_cmp}
-use Rattle.sai_types.specs.Order.{base_order, hop_order, thing_order}
+use Rattle.sai_types.specs.Hop.{hop_cmp, whop_cmp}
+use Rattle.sai_types.specs.Order.{base_order, hop_order, thing_order, whop_order}
 
 pub bases-by_parts : (a b : Base) → base_ord.ghosts.cmp a b ≡ base_order a b
 bases-by_parts (base.Port m) (base.Port n) = refl
@@ -26,11 +27,14 @@ then_same a b c e = ap (λ o. ordering_then o c) e
 pub hops-by_parts : (a b : Hop) → hop_cmp a b ≡ hop_order a b
 hops-by_parts a b = then_same (base_ord.ghosts.cmp a.on b.on) (base_order a.on b.on) (ip_cmp a.ip b.ip) (bases-by_parts a.on b.on)
 
-pub lists-by_parts : (gs hs : List Hop) → slice_cmp hop_cmp gs hs ≡ slice_cmp hop_order gs hs
+pub whops-by_parts : (a b : WHop) → whop_cmp a b ≡ whop_order a b
+whops-by_parts a b = then_same (hop_cmp a.hop b.hop) (hop_order a.hop b.hop) (nat_cmp a.weight b.weight) (hops-by_parts a.hop b.hop)
+
+pub lists-by_parts : (gs hs : List WHop) → slice_cmp whop_cmp gs hs ≡ slice_cmp whop_order gs hs
 lists-by_parts [] [] = refl
 lists-by_parts [] (h ∷ hs) = refl
 lists-by_parts (g ∷ gs) [] = refl
-lists-by_parts (g ∷ gs) (h ∷ hs) = ap₂ ordering_then (hops-by_parts g h) (lists-by_parts gs hs)
+lists-by_parts (g ∷ gs) (h ∷ hs) = ap₂ ordering_then (whops-by_parts g h) (lists-by_parts gs hs)
 
 then_assoc : (a b c : Ordering) → ordering_then a (ordering_then b c) ≡ ordering_then (ordering_then a b) c
 then_assoc Less b c = refl
@@ -52,7 +56,7 @@ things-by_parts (thing.Rif a) (thing.Rif b) = (Equal, bases-by_parts a b ∙ the
 things-by_parts (thing.Own i) (thing.Own j) = (Equal, then_none (ip_cmp i j))
 things-by_parts (thing.Neighbor g m) (thing.Neighbor h n) = (_, then_same (hop_cmp g h) (hop_order g h) _ (hops-by_parts g h))
 things-by_parts (thing.NextHop g) (thing.NextHop h) = (Equal, hops-by_parts g h ∙ then_none (hop_order g h))
-things-by_parts (thing.Group gs) (thing.Group hs) = (Equal, lists-by_parts gs hs ∙ then_none (slice_cmp hop_order gs hs))
-things-by_parts (thing.GroupMember gs g) (thing.GroupMember hs h) = (Equal, ap₂ ordering_then (lists-by_parts gs hs) (hops-by_parts g h) ∙ then_none (ordering_then (slice_cmp hop_order gs hs) (hop_order g h)))
+things-by_parts (thing.Group gs) (thing.Group hs) = (Equal, lists-by_parts gs hs ∙ then_none (slice_cmp whop_order gs hs))
+things-by_parts (thing.GroupMember gs g) (thing.GroupMember hs h) = (Equal, ap₂ ordering_then (lists-by_parts gs hs) (whops-by_parts g h) ∙ then_none (ordering_then (slice_cmp whop_order gs hs) (whop_order g h)))
 things-by_parts (thing.Route p f) (thing.Route q g) = (_, refl)
 things-by_parts t u = (Equal, refl)

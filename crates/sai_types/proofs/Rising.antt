@@ -1,5 +1,5 @@
 -- lists that rise, and what is in them
-use Rattle.std.proofs.Common.{◌≡◌, ◌⊎◌, inl, inr, true, List, [], ◌∷◌, Ordering, refl, sym, ap, ap₂, ◌∙◌}
+use Rattle.std.proofs.Common.{◌≡◌, ◌⊎◌, inl, inr, ℕ, true, List, [], ◌∷◌, Ordering, refl, sym, ap, ap₂, ◌∙◌}
 use Rattle.std.specs.BTreeSet.{insert_key}
 use Rattle.std.specs.Cmp.{IsTotalOrder}
 use Rattle.std.specs.List.{AllByRecursion}
@@ -14,11 +14,14 @@ use Rattle.swss_types.proofs.Tied.{then_first, then_last}
 use Rattle.sai_types.specs.declared.hop.Base.{Base}
 use Rattle.sai_types.specs.declared.hop.Base.TheVariants as base
 use Rattle.sai_types.specs.declared.hop.Hop.{Hop}
+use Rattle.sai_types.specs.declared.weight.WHop.{WHop}
 use Rattle.sai_types.specs.contracts.hop.BasePartialEq.TheImpl as base_eq
 use Rattle.sai_types.specs.contracts.hop.HopPartialEq.TheImpl as hop_eq
 use Rattle.sai_types.specs.contracts.hop.HopOrd.TheImpl.Laws as ordered_hop
+use Rattle.sai_types.specs.contracts.weight.WHopPartialEq.TheImpl as whop_eq
+use Rattle.sai_types.specs.contracts.weight.WHopOrd.TheImpl.Laws as ordered_whop
 use Rattle.sai_types.specs.Alike.{IsIn}
-use Rattle.sai_types.specs.Named.{hop_cmp}
+use Rattle.sai_types.specs.Hop.{hop_cmp, whop_cmp}
 use Rattle.sai_types.specs.Refusal.{same_ip}
 use Rattle.sai_types.proofs.Exact.{ip-exact}
 
@@ -40,11 +43,23 @@ hop-same a b h =
 pub hop_exact : CmpEqualImpliesEq hop_cmp
 hop_exact a b h = hop-same a b (ordered_hop.matches_eq-law a b ∙ ap is_eq h)
 
-pub hops_exact : CmpEqualImpliesEq (slice_cmp hop_cmp)
+pub whop_total : IsTotalOrder whop_cmp
+whop_total = ordered_whop.total-law
+
+pub whop-same : (a b : WHop) → whop_eq.ghosts.eq a b ≡ true → a ≡ b
+whop-same a b h =
+    let parts = and_parts (hop_eq.ghosts.eq a.hop b.hop) _ h in
+    let made : Hop → ℕ → WHop = λ x y. record { hop = x; weight = y } in
+    ap₂ made (hop-same a.hop b.hop parts.0) (eqb-true a.weight b.weight parts.1)
+
+pub whop_exact : CmpEqualImpliesEq whop_cmp
+whop_exact a b h = whop-same a b (ordered_whop.matches_eq-law a b ∙ ap is_eq h)
+
+pub hops_exact : CmpEqualImpliesEq (slice_cmp whop_cmp)
 hops_exact [] [] h = refl
 hops_exact [] (y ∷ ys) h = absurd cc
 hops_exact (x ∷ xs) [] h = absurd cc
-hops_exact (x ∷ xs) (y ∷ ys) h = ap₂ (λ a b. a ∷ b) (hop_exact x y (then_first _ _ h)) (hops_exact xs ys (then_last _ _ h))
+hops_exact (x ∷ xs) (y ∷ ys) h = ap₂ (λ a b. a ∷ b) (whop_exact x y (then_first _ _ h)) (hops_exact xs ys (then_last _ _ h))
 
 module _ {K : Type 0} (R : K → K → Ordering) (o : IsTotalOrder R) (exact : CmpEqualImpliesEq R) where
   here_step : (x k : K) (xs : List K) (r : Ordering) → R k x ≡ r → IsIn k (insert_key R xs k) → IsIn k (match_ordering r (k ∷ x ∷ xs) (x ∷ xs) (x ∷ insert_key R xs k))

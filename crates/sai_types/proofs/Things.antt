@@ -1,5 +1,5 @@
 -- two objects that stand for things of one name are one object
-use Rattle.std.proofs.Common.{◌≡◌, ◌⊎◌, inl, inr, ℕ, true, false, List, Option, None, Some, refl, sym, ap, ◌∙◌, subst, arith}
+use Rattle.std.proofs.Common.{◌≡◌, ◌⊎◌, inl, inr, ℕ, true, false, List, Option, None, Some, option_map, refl, sym, ap, ◌∙◌, subst, arith}
 use Rattle.std.proofs.lemmas.Bool.{and_from, eq-eqb, false≢true}
 use Rattle.std.proofs.lemmas.Option.{same_Some}
 use Rattle.swss_types.specs.declared.address.Ip.{Ip}
@@ -10,6 +10,7 @@ use Rattle.swss_types.proofs.Proper.{mapped}
 use Rattle.sai_types.specs.declared.ids.Rid.{Rid}
 use Rattle.sai_types.specs.declared.hop.Base.{Base}
 use Rattle.sai_types.specs.declared.hop.Hop.{Hop}
+use Rattle.sai_types.specs.declared.weight.WHop.{WHop}
 use Rattle.sai_types.specs.declared.thing.Thing.{Thing}
 use Rattle.sai_types.specs.declared.thing.Thing.TheVariants as thing
 use Rattle.sai_types.specs.declared.body.Body.{Body}
@@ -18,7 +19,7 @@ use Rattle.sai_types.specs.declared.body.Entry.{Entry}
 use Rattle.sai_types.specs.declared.body.Entry.TheVariants as entry
 use Rattle.sai_types.specs.Objects.{Objects, body_at, kind_of, level}
 use Rattle.sai_types.specs.Refusal.{clash, same_id, same_ip, same_prefix}
-use Rattle.sai_types.specs.Named.{both, first_lane, thing_by, port_at, vlan_at, bridge_port_at, base_on, hop_on, hops_at, next_hop_at, goal_by}
+use Rattle.sai_types.specs.Named.{both, first_lane, thing_by, port_at, vlan_at, bridge_port_at, base_on, hop_on, hops_at, next_hop_at, whop_at, goal_by}
 use Rattle.sai_types.specs.Names as name
 use Rattle.sai_types.specs.Names.{ThingName, name_kind, name_of}
 use Rattle.sai_types.specs.Made.{IsWhole, HaveLanes, has_first, HaveOneEach, is_one, same_entry}
@@ -29,6 +30,11 @@ pub both_mapped : {A B C : Type 0} (f : A → B → C) (o : Option A) (p : Optio
 both_mapped f None p y h = absurd cc
 both_mapped f (Some a) None y h = absurd cc
 both_mapped f (Some a) (Some b) y h = (a, b, refl, refl, cc)
+
+-- the hop that got a weight
+pub hop-of_whop : (o : Option Hop) (w : ℕ) (x : WHop) → option_map (λ h. record { hop = h; weight = w }) o ≡ Some x → o ≡ Some x.hop
+hop-of_whop None w x e = absurd cc
+hop-of_whop (Some h) w x e = ap (λ (z : WHop). Some z.hop) (same_Some _ x e)
 
 pub vlans : (a b : ℕ) → name.Vlan a ≡ name.Vlan b → a ≡ b
 vlans a b h = cc
@@ -54,16 +60,16 @@ neighbors a b h = cc
 pub next_hops : (a b : Hop) → name.NextHop a ≡ name.NextHop b → a ≡ b
 next_hops a b h = cc
 
-pub groups : (a b : List Hop) → name.Group a ≡ name.Group b → a ≡ b
+pub groups : (a b : List WHop) → name.Group a ≡ name.Group b → a ≡ b
 groups a b h = cc
 
-pub group_members : (a b : List Hop) (x y : Hop) → name.GroupMember a x ≡ name.GroupMember b y → (a ≡ b) × (x ≡ y)
+pub group_members : (a b : List WHop) (x y : WHop) → name.GroupMember a x ≡ name.GroupMember b y → (a ≡ b) × (x ≡ y)
 group_members a b x y h = (cc, cc)
 
 pub same_route_prefix : (a b : Prefix) → name.Route a ≡ name.Route b → a ≡ b
 same_route_prefix a b h = cc
 
-module _ (hops : Rid → Option (List Hop)) (objects : Objects) where
+module _ (hops : Rid → Option (List WHop)) (objects : Objects) where
   -- the name of an object's thing, by its entry and body
   abbrev IsNamed : Entry Rid → Body Rid → ThingName → Type 0
   IsNamed e (body.Port lanes speed mtu up) k = k ≡ name.Port (first_lane lanes)
@@ -74,8 +80,8 @@ module _ (hops : Rid → Option (List Hop)) (objects : Objects) where
   IsNamed e (body.OwnAddress ip) k = k ≡ name.Own ip
   IsNamed e (body.Neighbor rif ip mac) k = (h : Hop) × (hop_on objects rif ip ≡ Some h) × (k ≡ name.Neighbor h)
   IsNamed e (body.NextHop rif ip) k = (h : Hop) × (hop_on objects rif ip ≡ Some h) × (k ≡ name.NextHop h)
-  IsNamed e body.Group k = (g : Rid) × (hs : List Hop) × (e ≡ entry.Oid g) × (hops g ≡ Some hs) × (k ≡ name.Group hs)
-  IsNamed e (body.GroupMember group next_hop) k = (hs : List Hop) × (h : Hop) × (hops group ≡ Some hs) × (next_hop_at objects next_hop ≡ Some h) × (k ≡ name.GroupMember hs h)
+  IsNamed e body.Group k = (g : Rid) × (hs : List WHop) × (e ≡ entry.Oid g) × (hops g ≡ Some hs) × (k ≡ name.Group hs)
+  IsNamed e (body.GroupMember group next_hop weight) k = (hs : List WHop) × (h : WHop) × (hops group ≡ Some hs) × (whop_at objects next_hop weight ≡ Some h) × (k ≡ name.GroupMember hs h)
   IsNamed e (body.Route prefix to) k = k ≡ name.Route prefix
 
   group_named : (e : Entry Rid) (x : Thing) → thing_by hops objects (e, body.Group) ≡ Some x → IsNamed e body.Group (name_of x)
@@ -97,7 +103,9 @@ module _ (hops : Rid → Option (List Hop)) (objects : Objects) where
   named e (body.Neighbor rif ip mac) x h = let m = mapped (λ h. thing.Neighbor h mac) (hop_on objects rif ip) x h in (m.0, m.1, ap name_of (sym m.2))
   named e (body.NextHop rif ip) x h = let m = mapped thing.NextHop (hop_on objects rif ip) x h in (m.0, m.1, ap name_of (sym m.2))
   named e body.Group x h = group_named e x h
-  named e (body.GroupMember group next_hop) x h = let m = both_mapped thing.GroupMember (hops group) (next_hop_at objects next_hop) x h in (m.0, m.1, m.2, m.3, ap name_of (sym m.4))
+  named e (body.GroupMember group next_hop weight) x h =
+      let m = both_mapped thing.GroupMember (hops group) (whop_at objects next_hop weight) x h in
+      (m.0, m.1, m.2, m.3, ap name_of (sym m.4))
   named e (body.Route prefix to) x h = let m = mapped (thing.Route prefix) (goal_by hops objects to) x h in ap name_of (sym m.2)
 
   level_named : (e : Entry Rid) (b : Body Rid) (k : ThingName) → IsNamed e b k → level (name_kind k) ≡ level (kind_of b)
@@ -107,7 +115,7 @@ module _ (hops : Rid → Option (List Hop)) (objects : Objects) where
   level_named e (body.Neighbor rif ip mac) k h = ap (λ n. level (name_kind n)) h.2
   level_named e (body.NextHop rif ip) k h = ap (λ n. level (name_kind n)) h.2
   level_named e body.Group k h = ap (λ n. level (name_kind n)) h.4
-  level_named e (body.GroupMember group next_hop) k h = ap (λ n. level (name_kind n)) h.4
+  level_named e (body.GroupMember group next_hop weight) k h = ap (λ n. level (name_kind n)) h.4
   level_named e (body.Port lanes speed mtu up) k h = ap (λ n. level (name_kind n)) h
   level_named e (body.Vlan vlan) k h = ap (λ n. level (name_kind n)) h
   level_named e (body.OwnAddress ip) k h = ap (λ n. level (name_kind n)) h
@@ -115,7 +123,7 @@ module _ (hops : Rid → Option (List Hop)) (objects : Objects) where
 
   -- groups of these hops are one group
   abbrev AreOneGroup : Type 0
-  AreOneGroup = (g h : Rid) (hs : List Hop) → hops g ≡ Some hs → hops h ≡ Some hs → same_id g h ≡ true
+  AreOneGroup = (g h : Rid) (hs : List WHop) → hops g ≡ Some hs → hops h ≡ Some hs → same_id g h ≡ true
 
   one_group : (k : ThingName) → (is_one k ≡ true) ⊎ AreOneGroup → is_one k ≡ false → AreOneGroup
   one_group k (inl one) many = absurd (false≢true (sym many ∙ one))
@@ -136,9 +144,11 @@ module _ (hops : Rid → Option (List Hop)) (objects : Objects) where
     same_by e f body.Group body.Group k i j x y same one =
         let ids = one_group k one (ap is_one i.4) i.0 j.0 i.1 i.3 (j.3 ∙ ap Some (sym (groups i.1 j.1 (sym i.4 ∙ j.4)))) in
         inr (ap (λ z. same_entry z f) i.2 ∙ ap (same_entry (entry.Oid i.0)) j.2 ∙ ids-tied i.0 j.0 ∙ ids)
-    same_by e f (body.GroupMember g n) (body.GroupMember h m) k i j x y same one =
+    same_by e f (body.GroupMember g n v) (body.GroupMember h m w) k i j x y same one =
         let keys = group_members i.0 j.0 i.1 j.1 (sym i.4 ∙ j.4) in
-        inl (and_from _ _ (one_group k one (ap is_one i.4) g h i.0 i.2 (j.2 ∙ ap Some (sym keys.0))) (one_next_hop made objects whole have n m i.1 i.3 (j.3 ∙ ap Some (sym keys.1))))
+        let a = hop-of_whop (next_hop_at objects n) v i.1 i.3 in
+        let b = hop-of_whop (next_hop_at objects m) w i.1 (j.3 ∙ ap Some (sym keys.1)) in
+        inl (and_from _ _ (one_group k one (ap is_one i.4) g h i.0 i.2 (j.2 ∙ ap Some (sym keys.0))) (one_next_hop made objects whole have n m i.1.hop a b))
     same_by e f (body.Route prefix to) (body.Route other to') k i j x y same one = inl (ap (same_prefix prefix) (sym (same_route_prefix prefix other (sym i ∙ j))) ∙ equal_prefix.laws-law.refl prefix)
     same_by e f _ _ k i j x y same one = absurd (omega arith)
 

@@ -7,6 +7,7 @@ use Rattle.swss_types.specs.declared.vrf.Packet.{Packet}
 use Rattle.sai_types.specs.declared.hop.Base.{Base}
 use Rattle.sai_types.specs.declared.hop.Hop.{Hop}
 use Rattle.sai_types.specs.contracts.hop.HopPartialEq.TheImpl as hop_eq
+use Rattle.sai_types.specs.declared.weight.WHop.{WHop}
 use Rattle.sai_types.specs.declared.thing.Goal.{Goal}
 use Rattle.sai_types.specs.declared.thing.Goal.TheVariants as goal
 use Rattle.sai_types.specs.declared.thing.Thing.{Thing}
@@ -18,14 +19,14 @@ pub data Decision : Type 0 where
   Cpu : Decision
   Drop : Decision
   Direct : Base → Decision
-  Via : List Hop → Decision
+  Via : List WHop → Decision
 
 -- where a packet goes, with the Ethernet address of each hop where its neighbour stands
 pub data Forwarding : Type 0 where
   ToCpu : Forwarding
   Dropped : Forwarding
   ToAll : Base → Forwarding
-  Through : List (Hop × Option Mac) → Forwarding
+  Through : List (WHop × Option Mac) → Forwarding
 
 abbrev pub is_own : Packet → Thing → Bool
 is_own a (thing.Own ip) = same_ip ip a.to
@@ -50,11 +51,15 @@ abbrev pub best_route : List Thing → Packet → Option (Prefix × Goal)
 best_route [] a = None
 best_route (t ∷ ts) a = with_route a t (best_route ts a)
 
--- one hop is the set of itself
+-- a hop with the weight 1
+abbrev pub alone : Hop → WHop
+alone hop = record { hop = hop; weight = 1 }
+
+-- one hop is the set of itself, with the weight 1
 abbrev pub decision_of : Goal → Decision
 decision_of goal.Drop = Drop
 decision_of (goal.Direct base) = Direct base
-decision_of (goal.Via hop) = Via (hop ∷ [])
+decision_of (goal.Via hop) = Via (alone hop ∷ [])
 decision_of (goal.Group hops) = Via hops
 
 abbrev pub decide_route : Option (Prefix × Goal) → Decision
@@ -78,7 +83,7 @@ abbrev pub forwarding_of : List Thing → Decision → Forwarding
 forwarding_of things Cpu = ToCpu
 forwarding_of things Drop = Dropped
 forwarding_of things (Direct base) = ToAll base
-forwarding_of things (Via hops) = Through (map (λ h. (h, hop_mac things h)) hops)
+forwarding_of things (Via hops) = Through (map (λ h. (h, hop_mac things h.hop)) hops)
 
 -- the decision with each hop's Ethernet address
 abbrev pub forward : List Thing → Packet → Forwarding

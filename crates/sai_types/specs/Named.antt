@@ -1,11 +1,11 @@
 -- What stands on a chip, up to identifiers: each object with its identifiers replaced by the natural keys of what they name. Own; the natural keys are those of the OCP SAI headers' key attributes.
 use Rattle.std.specs.Prelude.{ℕ, List, [], ◌∷◌, Option, Some, None, slice_index, option_map, if◌then◌else◌}
-use Rattle.std.specs.BTreeSet.{insert_key}
 use Rattle.swss_types.specs.declared.address.Ip.{Ip}
 use Rattle.sai_types.specs.declared.ids.Rid.{Rid}
 use Rattle.sai_types.specs.declared.hop.Base.{Base}
 use Rattle.sai_types.specs.declared.hop.Base.TheVariants as base
 use Rattle.sai_types.specs.declared.hop.Hop.{Hop}
+use Rattle.sai_types.specs.declared.weight.WHop.{WHop}
 use Rattle.sai_types.specs.declared.thing.Goal.{Goal}
 use Rattle.sai_types.specs.declared.thing.Goal.TheVariants as goal
 use Rattle.sai_types.specs.declared.thing.Thing.{Thing}
@@ -18,7 +18,7 @@ use Rattle.sai_types.specs.declared.body.RifOn.{RifOn}
 use Rattle.sai_types.specs.declared.body.RifOn.TheVariants as on
 use Rattle.sai_types.specs.declared.body.To.{To}
 use Rattle.sai_types.specs.declared.body.To.TheVariants as to
-pub use Rattle.sai_types.specs.Hop.{hop_cmp}
+pub use Rattle.sai_types.specs.Hop.{hop_cmp, put_hop, whop_cmp}
 use Rattle.sai_types.specs.Objects.{Objects, body_at}
 use Rattle.sai_types.specs.Refusal.{same_id}
 
@@ -78,30 +78,34 @@ next_hop_of objects _ = None
 abbrev pub next_hop_at : Objects → Rid → Option Hop
 next_hop_at objects r = next_hop_of objects (body_at objects (entry.Oid r))
 
+-- the hop of a member, with its weight
+abbrev pub whop_at : Objects → Rid → ℕ → Option WHop
+whop_at objects r weight = option_map (λ h. record { hop = h; weight = weight }) (next_hop_at objects r)
+
 -- the hop of a member of this group, beside the hops of others
-abbrev pub with_member : Objects → Rid → Body Rid → Option (List Hop) → Option (List Hop)
-with_member objects g (body.GroupMember group next_hop) others =
-    if same_id group g then both (insert_key hop_cmp) others (next_hop_at objects next_hop) else others
+abbrev pub with_member : Objects → Rid → Body Rid → Option (List WHop) → Option (List WHop)
+with_member objects g (body.GroupMember group next_hop weight) others =
+    if same_id group g then both put_hop others (whop_at objects next_hop weight) else others
 with_member objects g _ others = others
 
 -- the hops of a group's members among these objects, rising
-abbrev pub hops_among : Objects → Rid → Objects → Option (List Hop)
+abbrev pub hops_among : Objects → Rid → Objects → Option (List WHop)
 hops_among objects g [] = Some []
 hops_among objects g (o ∷ os) = with_member objects g o.1 (hops_among objects g os)
 
--- a group is named by the hops of its members
-abbrev pub hops_at : Objects → Rid → Option (List Hop)
+-- a group is named by the hops of its members, with their weights
+abbrev pub hops_at : Objects → Rid → Option (List WHop)
 hops_at objects g = hops_among objects g objects
 
 -- where a route points, where groups have these hops
-abbrev pub goal_by : (Rid → Option (List Hop)) → Objects → To Rid → Option Goal
+abbrev pub goal_by : (Rid → Option (List WHop)) → Objects → To Rid → Option Goal
 goal_by hops objects to.Drop = Some goal.Drop
 goal_by hops objects (to.Rif r) = option_map goal.Direct (rif_at objects r)
 goal_by hops objects (to.NextHop n) = option_map goal.Via (next_hop_at objects n)
 goal_by hops objects (to.Group g) = option_map goal.Group (hops g)
 
 -- what an object stands for, where groups have these hops; none where a reference is absent
-abbrev pub thing_by : (Rid → Option (List Hop)) → Objects → (Entry Rid × Body Rid) → Option Thing
+abbrev pub thing_by : (Rid → Option (List WHop)) → Objects → (Entry Rid × Body Rid) → Option Thing
 thing_by hops objects (e, body.Port lanes speed mtu up) = Some (thing.Port (record { lanes = lanes; speed = speed; mtu = mtu; up = up }))
 thing_by hops objects (e, body.Vlan vlan) = Some (thing.Vlan vlan)
 thing_by hops objects (e, body.BridgePort port) = option_map thing.BridgePort (port_at objects port)
@@ -112,7 +116,7 @@ thing_by hops objects (e, body.Neighbor rif ip mac) = option_map (λ h. thing.Ne
 thing_by hops objects (e, body.NextHop rif ip) = option_map thing.NextHop (hop_on objects rif ip)
 thing_by hops objects (entry.Oid g, body.Group) = option_map thing.Group (hops g)
 thing_by hops objects (_, body.Group) = None
-thing_by hops objects (e, body.GroupMember group next_hop) = both thing.GroupMember (hops group) (next_hop_at objects next_hop)
+thing_by hops objects (e, body.GroupMember group next_hop weight) = both thing.GroupMember (hops group) (whop_at objects next_hop weight)
 thing_by hops objects (e, body.Route prefix to) = option_map (thing.Route prefix) (goal_by hops objects to)
 
 -- what an object stands for, a group by the hops of its members

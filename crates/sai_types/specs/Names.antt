@@ -5,6 +5,7 @@ use Rattle.swss_types.specs.declared.address.Prefix.{Prefix}
 use Rattle.sai_types.specs.declared.hop.Base.{Base}
 use Rattle.sai_types.specs.declared.hop.Base.TheVariants as base
 use Rattle.sai_types.specs.declared.hop.Hop.{Hop}
+use Rattle.sai_types.specs.declared.weight.WHop.{WHop}
 use Rattle.sai_types.specs.declared.kind.Kind.{Kind}
 use Rattle.sai_types.specs.declared.kind.Kind.TheVariants as kind
 use Rattle.sai_types.specs.declared.thing.Goal.{Goal}
@@ -25,8 +26,8 @@ pub data ThingName : Type 0 where
   Own : Ip → ThingName
   Neighbor : Hop → ThingName
   NextHop : Hop → ThingName
-  Group : List Hop → ThingName
-  GroupMember : List Hop → Hop → ThingName
+  Group : List WHop → ThingName
+  GroupMember : List WHop → WHop → ThingName
   Route : Prefix → ThingName
 
 abbrev pub name_of : Thing → ThingName
@@ -39,7 +40,7 @@ name_of (thing.Own ip) = Own ip
 name_of (thing.Neighbor hop mac) = Neighbor hop
 name_of (thing.NextHop hop) = NextHop hop
 name_of (thing.Group hops) = Group hops
-name_of (thing.GroupMember hops hop) = GroupMember hops hop
+name_of (thing.GroupMember hops whop) = GroupMember hops whop
 name_of (thing.Route prefix goal) = Route prefix
 
 -- the kind of object that a name is for
@@ -77,7 +78,7 @@ thing_references (thing.VlanMember vlan lane tagging) = Vlan vlan ∷ BridgePort
 thing_references (thing.Rif on) = base_name on ∷ []
 thing_references (thing.Neighbor hop mac) = Rif hop.on ∷ []
 thing_references (thing.NextHop hop) = Rif hop.on ∷ Neighbor hop ∷ []
-thing_references (thing.GroupMember hops hop) = Group hops ∷ NextHop hop ∷ []
+thing_references (thing.GroupMember hops whop) = Group hops ∷ NextHop whop.hop ∷ []
 thing_references (thing.Route prefix goal) = goal_names goal
 thing_references _ = []
 
@@ -85,11 +86,12 @@ thing_references _ = []
 abbrev pub Refers : Thing → ThingName → Type 0
 Refers t k = IsIn k (thing_references t)
 
--- two ports have a lane in common
-abbrev pub ShareLane : Thing → Thing → Type 0
-ShareLane (thing.Port p) (thing.Port q) = share_lane p.lanes q.lanes ≡ true
-ShareLane _ _ = ⊥
+-- what no two things that stand together have in common: two ports a lane, two members of a group a hop
+abbrev pub Overlap : Thing → Thing → Type 0
+Overlap (thing.Port p) (thing.Port q) = share_lane p.lanes q.lanes ≡ true
+Overlap (thing.GroupMember gs x) (thing.GroupMember hs y) = (gs ≡ hs) × (x.hop ≡ y.hop)
+Overlap _ _ = ⊥
 
 -- two things can't stand together
 abbrev pub Meet : Thing → Thing → Type 0
-Meet t u = (name_of t ≡ name_of u) ⊎ ShareLane t u
+Meet t u = (name_of t ≡ name_of u) ⊎ Overlap t u

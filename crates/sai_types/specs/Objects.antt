@@ -52,7 +52,7 @@ kind_of (body.OwnAddress ip) = kind.OwnAddress
 kind_of (body.Neighbor rif ip mac) = kind.Neighbor
 kind_of (body.NextHop rif ip) = kind.NextHop
 kind_of body.Group = kind.Group
-kind_of (body.GroupMember group next_hop) = kind.GroupMember
+kind_of (body.GroupMember group next_hop weight) = kind.GroupMember
 kind_of (body.Route prefix to) = kind.Route
 
 -- whether a body is of this kind

@@ -8,6 +8,7 @@ use Rattle.swss_types.specs.AddressOrder.{ip_cmp, prefix_cmp}
 use Rattle.sai_types.specs.declared.hop.Base.{Base}
 use Rattle.sai_types.specs.declared.hop.Base.TheVariants as base
 use Rattle.sai_types.specs.declared.hop.Hop.{Hop}
+use Rattle.sai_types.specs.declared.weight.WHop.{WHop}
 use Rattle.sai_types.specs.declared.thing.Thing.{Thing}
 use Rattle.sai_types.specs.declared.thing.Thing.TheVariants as thing
 use Rattle.sai_types.specs.Names.{thing_kind}
@@ -29,6 +30,10 @@ base_order a b = ordering_then (nat_cmp (base_place a) (base_place b)) (nat_cmp 
 abbrev pub hop_order : Hop → Hop → Ordering
 hop_order a b = ordering_then (base_order a.on b.on) (ip_cmp a.ip b.ip)
 
+-- hops with their weights by the hop, and then by the weight
+abbrev pub whop_order : WHop → WHop → Ordering
+whop_order a b = ordering_then (hop_order a.hop b.hop) (nat_cmp a.weight b.weight)
+
 -- things of one kind by their natural keys, from the first part on
 abbrev pub natural_order : Thing → Thing → Ordering
 natural_order (thing.Port p) (thing.Port q) = slice_cmp nat_cmp p.lanes q.lanes
@@ -39,8 +44,8 @@ natural_order (thing.Rif a) (thing.Rif b) = base_order a b
 natural_order (thing.Own i) (thing.Own j) = ip_cmp i j
 natural_order (thing.Neighbor g m) (thing.Neighbor h n) = hop_order g h
 natural_order (thing.NextHop g) (thing.NextHop h) = hop_order g h
-natural_order (thing.Group gs) (thing.Group hs) = slice_cmp hop_order gs hs
-natural_order (thing.GroupMember gs g) (thing.GroupMember hs h) = ordering_then (slice_cmp hop_order gs hs) (hop_order g h)
+natural_order (thing.Group gs) (thing.Group hs) = slice_cmp whop_order gs hs
+natural_order (thing.GroupMember gs g) (thing.GroupMember hs h) = ordering_then (slice_cmp whop_order gs hs) (whop_order g h)
 natural_order (thing.Route p f) (thing.Route q g) = prefix_cmp p q
 natural_order t u = Equal
 

@@ -39,7 +39,7 @@ references (body.VlanMember vlan bridge_port tagging) = (kind.Vlan, entry.Oid vl
 references (body.Rif on) = base_reference on ∷ []
 references (body.Neighbor rif ip mac) = (kind.Rif, entry.Oid rif) ∷ []
 references (body.NextHop rif ip) = (kind.Rif, entry.Oid rif) ∷ (kind.Neighbor, entry.Neigh rif ip) ∷ []
-references (body.GroupMember group next_hop) = (kind.Group, entry.Oid group) ∷ (kind.NextHop, entry.Oid next_hop) ∷ []
+references (body.GroupMember group next_hop weight) = (kind.Group, entry.Oid group) ∷ (kind.NextHop, entry.Oid next_hop) ∷ []
 references (body.Route prefix to) = target_references to
 references _ = []
 

@@ -51,7 +51,7 @@ clash (body.Rif on) (body.Rif other) = same_base on other
 clash (body.OwnAddress ip) (body.OwnAddress other) = same_ip ip other
 clash (body.Neighbor rif ip mac) (body.Neighbor rif' ip' mac') = same_id rif rif' && same_ip ip ip'
 clash (body.NextHop rif ip) (body.NextHop rif' ip') = same_id rif rif' && same_ip ip ip'
-clash (body.GroupMember group next_hop) (body.GroupMember group' next_hop') = same_id group group' && same_id next_hop next_hop'
+clash (body.GroupMember group next_hop weight) (body.GroupMember group' next_hop' weight') = same_id group group' && same_id next_hop next_hop'
 clash (body.Route prefix to) (body.Route prefix' to') = same_prefix prefix prefix'
 clash _ _ = false
 

@@ -1,7 +1,7 @@
 // Objects, and the calls that make, change and remove them. I is the type of identifiers.
 ghost use Rattle.std.specs.Prelude.{◌≡◌, IfOk};
 
-use crate::Kind;
+use crate::{Kind, Weight};
 use swss_types::{Ip, Lanes, Mac, OutOfMemory, Prefix, Tagging};
 
 /// What a router interface stands on.
@@ -93,6 +93,8 @@ pub enum Body<I> {
         group: I,
         /// The next hop.
         next_hop: I,
+        /// Its weight.
+        weight: Weight,
     },
     /// A route.
     Route {
@@ -213,9 +215,14 @@ impl<I: Copy> Body<I> {
             },
             Body::NextHop { rif, ip } => Body::NextHop { rif: *rif, ip: *ip },
             Body::Group => Body::Group,
-            Body::GroupMember { group, next_hop } => Body::GroupMember {
+            Body::GroupMember {
+                group,
+                next_hop,
+                weight,
+            } => Body::GroupMember {
                 group: *group,
                 next_hop: *next_hop,
+                weight: *weight,
             },
             Body::Route { prefix, to } => Body::Route {
                 prefix: *prefix,

@@ -13,6 +13,7 @@ mod laws;
 mod pairing;
 mod plan;
 mod thing;
+mod weight;
 
 pub use answer::{ChipAnswer, ListAnswer, SyncAnswer};
 pub use body::{Attr, Body, Call, Entry, Object, RifOn, To};
@@ -31,3 +32,4 @@ pub use laws::{
 pub use pairing::Pairing;
 pub use plan::{Mode, Plan, PlanCall, PlanCalls, PlanId};
 pub use thing::{Goal, PortThing, Thing};
+pub use weight::{WHop, Weight};

@@ -1,7 +1,7 @@
 // What stands on a chip, up to identifiers.
 ghost use Rattle.std.specs.Prelude.{◌≡◌, IfOk};
 
-use crate::{Base, Hop, Hops};
+use crate::{Base, Hop, Hops, WHop};
 use swss_types::{Ip, Lanes, Mac, OutOfMemory, Prefix, Tagging};
 
 /// Where a route sends its packets.
@@ -49,10 +49,10 @@ pub enum Thing {
     Neighbor(Hop, Mac),
     /// A next hop.
     NextHop(Hop),
-    /// A group, by its hops.
+    /// A group, by its hops with their weights.
     Group(Hops),
     /// A hop in a group.
-    GroupMember(Hops, Hop),
+    GroupMember(Hops, WHop),
     /// A route.
     Route(Prefix, Goal),
 }

@@ -6,7 +6,7 @@ use Rattle.table_schema.specs.declared.key.Key.TheVariants as key
 use Rattle.table_schema.specs.declared.row.Row.{Row}
 use Rattle.table_schema.specs.declared.row.Row.TheVariants as row
 use Rattle.table_schema.specs.declared.row.RouteRow.TheVariants as route
-use Rattle.sai_types.specs.declared.hop.Hop.{Hop}
+use Rattle.sai_types.specs.declared.weight.WHop.{WHop}
 use Rattle.sai_types.specs.declared.thing.Goal.{Goal}
 use Rattle.sai_types.specs.declared.thing.Thing.{Thing}
 use Rattle.sai_types.specs.declared.thing.Thing.TheVariants as thing
@@ -26,22 +26,22 @@ use Rattle.switch_machine.proofs.Sequence.{make_append}
 
 -- groups and their members
 abbrev IsOfGroup : Thing → Type 0
-IsOfGroup t = (hops : List Hop) × ((t ≡ thing.Group hops) ⊎ ((hop : Hop) × (t ≡ thing.GroupMember hops hop)))
+IsOfGroup t = (hops : List WHop) × ((t ≡ thing.Group hops) ⊎ ((hop : WHop) × (t ≡ thing.GroupMember hops hop)))
 
 bears_not : (t : Thing) → IsOfGroup t → Bears (name_of t) → ⊥
 bears_not t (hops, inl e) h = subst (λ z. Bears (name_of z)) e h
 bears_not t (hops, inr (hop, e)) h = subst (λ z. Bears (name_of z)) e h
 
-member_group : (hops some : List Hop) (t : Thing) → IsIn t (members_of hops some) → IsOfGroup t
+member_group : (hops some : List WHop) (t : Thing) → IsIn t (members_of hops some) → IsOfGroup t
 member_group hops [] t h = elim h [ ]
 member_group hops (hop ∷ some) t (inl e) = (hops, inr (hop, e))
 member_group hops (hop ∷ some) t (inr h) = member_group hops some t h
 
-things_group : (hops : List Hop) (t : Thing) → IsIn t (shared_things (owner.Group hops)) → IsOfGroup t
+things_group : (hops : List WHop) (t : Thing) → IsIn t (shared_things (owner.Group hops)) → IsOfGroup t
 things_group hops t (inl e) = (hops, inl e)
 things_group hops t (inr h) = member_group hops hops t h
 
-going_group : (hops : List Hop) (t : Thing) → IsIn t (shared_going (owner.Group hops)) → IsOfGroup t
+going_group : (hops : List WHop) (t : Thing) → IsIn t (shared_going (owner.Group hops)) → IsOfGroup t
 going_group hops t h = by (in-either t (members_of hops hops) (thing.Group hops ∷ []) h)
   where
     by : IsIn t (members_of hops hops) ⊎ IsIn t (thing.Group hops ∷ []) → IsOfGroup t
@@ -60,7 +60,7 @@ take_none (t ∷ ts) rest group none c (inl e) = λ b. bears_not t (group t (inl
 take_none (t ∷ ts) rest group none c (inr h) = take_none ts rest (λ u g. group u (inr g)) none c h
 
 abbrev AreGroups : List Owner → Type 0
-AreGroups os = (o : Owner) → IsIn o os → (hops : List Hop) × (o ≡ owner.Group hops)
+AreGroups os = (o : Owner) → IsIn o os → (hops : List WHop) × (o ≡ owner.Group hops)
 
 nothing_bears : NoneBears []
 nothing_bears c h = elim h [ ]

@@ -1,5 +1,5 @@
 -- the call of a change that is due is legal, and leaves the layout of what stands then
-use Rattle.std.proofs.Common.{◌≡◌, ◌⊎◌, ◌+◌, ◌∷◌, ◌∙◌, inl, inr, ℕ, true, List, [], Option, None, Some, refl, sym, ap, subst}
+use Rattle.std.proofs.Common.{◌≡◌, ◌⊎◌, ◌+◌, ◌∷◌, ◌∙◌, inl, inr, ℕ, true, List, [], Option, None, Some, refl, sym, ap, ap₂, subst}
 use Rattle.swss_types.specs.declared.address.Mac.{Mac}
 use Rattle.table_schema.specs.Plan.{Ports, IsPlan, lanes_in_plan}
 use Rattle.table_schema.specs.declared.key.Key.{Key}
@@ -12,11 +12,13 @@ use Rattle.sai_types.specs.declared.body.Attr.TheVariants as attr
 use Rattle.sai_types.specs.declared.body.Call.{Call}
 use Rattle.sai_types.specs.declared.body.Call.TheVariants as call
 use Rattle.sai_types.specs.declared.hop.Hop.{Hop}
+use Rattle.sai_types.specs.declared.weight.WHop.{WHop}
 use Rattle.sai_types.specs.declared.thing.PortThing.{PortThing}
 use Rattle.sai_types.specs.declared.thing.Thing.{Thing}
 use Rattle.sai_types.specs.declared.thing.Thing.TheVariants as thing
 use Rattle.sai_types.specs.After.{after_call, entry_of}
 use Rattle.sai_types.specs.Alike.{IsIn}
+use Rattle.sai_types.specs.Hop.{AreRisingHops}
 use Rattle.sai_types.specs.Made.{IsWhole}
 use Rattle.sai_types.specs.Named.{first_lane}
 use Rattle.sai_types.specs.Objects.{Objects}
@@ -25,7 +27,8 @@ use Rattle.switch_model.specs.Things.{base_of, lane_of, members_of}
 use Rattle.chip_layout.specs.Bodies.{IsAt, IsChange, to_with, goal_name}
 use Rattle.chip_layout.specs.Layout.{Has, HasRoom, IsFree, IsLaidOut, IsUnused, Layout, has_number, listed, next_rid, with_changed, with_thing, without}
 use Rattle.sai_types.specs.Names as name
-use Rattle.sai_types.specs.Names.{Meet, ThingName, Refers, ShareLane, name_of}
+use Rattle.sai_types.specs.Names.{Meet, Overlap, ThingName, Refers, name_of}
+use Rattle.sai_types.proofs.Weights.{one-weight}
 use Rattle.chip_layout.proofs.Bodies.{first-refers}
 use Rattle.chip_layout.proofs.Making.{make-laid, make-legal}
 use Rattle.chip_layout.proofs.Removing.{remove-laid, remove-legal}
@@ -44,6 +47,8 @@ use Rattle.switch_machine.specs.Tables.{IsNamed, TableLaws}
 use Rattle.switch_machine.proofs.Running.{one_owner, row_keys, shared_row}
 use Rattle.switch_machine.proofs.Moving.{fit_of}
 use Rattle.switch_machine.proofs.Splits.{own_row_in, use_row_in}
+use Rattle.switch_machine.proofs.Ordered.{group_rising}
+use Rattle.switch_machine.proofs.Tabled.{member_hop}
 
 pub sort_of : (o : Owner) → IsShared o ⊎ ((k : Key) × (o ≡ OfRow k))
 sort_of (owner.OfRow k) = inr (k, refl)
@@ -61,7 +66,7 @@ not_this_port : {X : Type 0} (p : PortThing) (u : Thing) → IsIn (thing.Port p)
 not_this_port p u (inl h) other = absurd (other h)
 not_this_port p u (inr h) other = elim h [ ]
 
-no_member : (all hops : List Hop) (p : PortThing) → IsIn (thing.Port p) (members_of all hops) → ⊥
+no_member : (all hops : List WHop) (p : PortThing) → IsIn (thing.Port p) (members_of all hops) → ⊥
 no_member all [] p h = elim h [ ]
 no_member all (hop ∷ hops) p (inl h) = cc
 no_member all (hop ∷ hops) p (inr h) = no_member all hops p h
@@ -162,10 +167,46 @@ module _ (plan : Ports) (is : IsPlan plan) (tables : TableLaws plan) (m : Machin
   final_planned p (inl h) = let r = own_row_in plan f.key f.new (thing.Port p) h in port_planned plan f.key r.0 p (fits r.0 r.1) r.2
   final_planned p (inr h) = absurd (shared_no_port h.0 p h.2)
 
-  apart_by : (t u : Thing) → CanMake plan f (StandsIn m) t → StandsIn m u → ShareLane t u → ⊥
+  -- a row uses what is held
+  user_row : (k : Key) (o : Owner) → IsUser plan m.board k o → (r : Row) × IsRow m.board k r × IsIn o (uses plan k r)
+  user_row k o (inr (rests, h)) = let r = use_row_in plan k (m.board.applied k) o h in (r.0, inl r.1, r.2)
+  user_row k o (inl (v, g, at, is, inl h)) = let r = use_row_in plan g.key g.new o h in (r.0, inr (v, g, at, is, r.1), subst (λ q. IsIn o (uses plan q r.0)) is r.2)
+  user_row k o (inl (v, g, at, is, inr h)) = let was = (sound.board.leaves v g o at h).0 in (was.row, inl (subst (λ q. m.board.applied q ≡ Some was.row) is was.was), subst (λ q. IsIn o (uses plan q was.row)) is was.used)
+
+  held_row : (o : Owner) → IsUsedOrRetired plan m.board o → (k : Key) × (r : Row) × IsRow m.board k r × IsIn o (uses plan k r)
+  held_row o (inl (k, user)) = let x = user_row k o user in (k, x.0, x.1, x.2)
+  held_row o (inr (v, g, at, retires)) = let was = sound.board.left v g o at retires in (g.key, was.row, inl was.was, was.used)
+
+  -- a member that stands is one of a group that a row uses, whose hops rise
+  hops_rising : (all : List WHop) (x : WHop) → StandsIn m (thing.GroupMember all x) → AreRisingHops all
+  hops_rising all x h =
+      let held = sound.held (owner.Group all) (thing.GroupMember all x) h refl tt in
+      let r = held_row (owner.Group all) held.1 in
+      group_rising plan r.0 r.1 (owner.Group all) all r.3 refl
+
+  in_things : (all : List WHop) (x : WHop) → IsIn (thing.GroupMember all x) (shared_things (owner.Group all)) → IsIn x all
+  in_things all x (inl e) = absurd cc
+  in_things all x (inr g) = member_hop all all x g
+
+  in_group : (all : List WHop) (x : WHop) → StandsIn m (thing.GroupMember all x) → IsIn x all
+  in_group all x h = in_things all x (sound.held (owner.Group all) (thing.GroupMember all x) h refl tt).0
+
+  final_group : (all : List WHop) (x : WHop) → IsFinal plan f (thing.GroupMember all x) → IsIn x all
+  final_group all x (inl h) = let r = own_row_in plan f.key f.new (thing.GroupMember all x) h in let of = tables.own f.key r.0 (thing.GroupMember all x) (fits r.0 r.1) r.2 in absurd cc
+  final_group all x (inr (o, h, in_it)) =
+      let of : Some (owner.Group all) ≡ Some o = tables.shared o (thing.GroupMember all x) in_it in
+      let same : owner.Group all ≡ o = cc in
+      in_things all x (subst (λ p. IsIn (thing.GroupMember all x) (shared_things p)) (sym same) in_it)
+
+  -- two members of one group with one hop have one weight, and so one name
+  members_same : (all others : List WHop) (x y : WHop) → Overlap (thing.GroupMember all x) (thing.GroupMember others y) → AreRisingHops others → IsIn x all → IsIn y others → name.GroupMember others y ≡ name.GroupMember all x
+  members_same all others x y (same, hop) rising mine there = ap₂ name.GroupMember (sym same) (one-weight others y x rising there (subst (IsIn x) same mine) (sym hop))
+
+  apart_by : (t u : Thing) → CanMake plan f (StandsIn m) t → StandsIn m u → Overlap t u → ⊥
   apart_by (thing.Port p) (thing.Port q) can h share =
       let one = lanes_name plan is q.lanes p.lanes (stands_planned q h) (final_planned p can.final) (λ x y hx hy. sym (one-planned plan y x p.lanes q.lanes is hy hx share)) in
       can.fresh (thing.Port q) h (ap (λ l. name.Port (first_lane l)) one)
+  apart_by (thing.GroupMember all x) (thing.GroupMember others y) can h share = can.fresh (thing.GroupMember others y) h (members_same all others x y share (hops_rising others y h) (final_group all x can.final) (in_group others y h))
   apart_by t u can h share = elim share [ ]
 
   free : (t : Thing) → CanMake plan f (StandsIn m) t → IsFree L t
@@ -227,16 +268,6 @@ module _ (plan : Ports) (is : IsPlan plan) (tables : TableLaws plan) (m : Machin
   no_firm n k r (inr (o, of, retires)) row named =
       let was = sound.board.left w f o flying retires in
       shared_row o named.by (tables.are_shared f.key was.row o was.used) (one_owner plan n o (OfRow named.by) of (tables.names_own named.by n named.own))
-
-  -- a row uses what is held
-  user_row : (k : Key) (o : Owner) → IsUser plan m.board k o → (r : Row) × IsRow m.board k r × IsIn o (uses plan k r)
-  user_row k o (inr (rests, h)) = let r = use_row_in plan k (m.board.applied k) o h in (r.0, inl r.1, r.2)
-  user_row k o (inl (v, g, at, is, inl h)) = let r = use_row_in plan g.key g.new o h in (r.0, inr (v, g, at, is, r.1), subst (λ q. IsIn o (uses plan q r.0)) is r.2)
-  user_row k o (inl (v, g, at, is, inr h)) = let was = (sound.board.leaves v g o at h).0 in (was.row, inl (subst (λ q. m.board.applied q ≡ Some was.row) is was.was), subst (λ q. IsIn o (uses plan q was.row)) is was.used)
-
-  held_row : (o : Owner) → IsUsedOrRetired plan m.board o → (k : Key) × (r : Row) × IsRow m.board k r × IsIn o (uses plan k r)
-  held_row o (inl (k, user)) = let x = user_row k o user in (k, x.0, x.1, x.2)
-  held_row o (inr (v, g, at, retires)) = let was = sound.board.left v g o at retires in (g.key, was.row, inl was.was, was.used)
 
   unused_by : (n : ThingName) (u : Thing) → CanTake plan f (StandsIn m) n → StandsIn m u → Refers u n → (o : Owner) → IsOwnedBy plan (name_of u) o → IsShared o ⊎ ((k : Key) × (o ≡ OfRow k)) → ⊥
   unused_by n u can h refers o of (inl shared) =

@@ -6,29 +6,29 @@ use Rattle.std.specs.Cmp.{booleans_Decides}
 use Rattle.std.specs.Cmp.Lexicographic.{pointwise}
 use Rattle.std.proofs.lemmas.Slice.Eq.{slice_eq-Decides}
 use Rattle.std.proofs.lemmas.Bool.Decides.{Decides-eqb}
-use Rattle.sai_types.specs.declared.hop.Hop.{Hop}
+use Rattle.sai_types.specs.declared.weight.WHop.{WHop}
 use Rattle.sai_types.specs.declared.thing.Goal.{Goal}
 use Rattle.sai_types.specs.declared.thing.Goal.TheVariants as goal
 use Rattle.sai_types.specs.declared.thing.PortThing.{PortThing}
 use Rattle.sai_types.specs.declared.thing.Thing.{Thing}
 use Rattle.sai_types.specs.declared.thing.Thing.TheVariants as thing
-use Rattle.sai_types.specs.contracts.hop.HopPartialEq.TheImpl as hop_eq
+use Rattle.sai_types.specs.contracts.weight.WHopPartialEq.TheImpl as whop_eq
 use Rattle.sai_types.specs.contracts.thing.GoalPartialEq.TheImpl as goal_eq
 use Rattle.sai_types.specs.contracts.thing.PortThingPartialEq.TheImpl as port_eq
 use Rattle.sai_types.proofs.Exact.{ip-exact, prefix-exact}
-use Rattle.sai_types.specs.contracts.hop.HopEq.TheImpl.Laws as equal_hop
+use Rattle.sai_types.specs.contracts.weight.WHopEq.TheImpl.Laws as equal_whop
 use Rattle.swss_types.proofs.SameValues.{mac_exact, tagging_exact}
-use Rattle.sai_types.proofs.Rising.{hop-same, base-exact}
+use Rattle.sai_types.proofs.Rising.{hop-same, whop-same, base-exact}
 use Rattle.row_layout.specs.Operations.{same_thing}
 
-hop_decides : (a b : Hop) → Decides (hop_eq.ghosts.eq a b) (a ≡ b)
-hop_decides a b = (hop-same a b, λ e. subst (λ z. hop_eq.ghosts.eq a z ≡ true) e (equal_hop.laws-law.refl a))
+whop_decides : (a b : WHop) → Decides (whop_eq.ghosts.eq a b) (a ≡ b)
+whop_decides a b = (whop-same a b, λ e. subst (λ z. whop_eq.ghosts.eq a z ≡ true) e (equal_whop.laws-law.refl a))
 
 pub lanes_exact : (xs ys : List ℕ) → pointwise ◌==◌ xs ys ≡ true → xs ≡ ys
 lanes_exact xs ys h = (slice_eq-Decides Decides-eqb xs ys (pointwise ◌==◌ xs ys) refl).0 h
 
-hops_eq_exact : (xs ys : List Hop) → pointwise hop_eq.ghosts.eq xs ys ≡ true → xs ≡ ys
-hops_eq_exact xs ys h = (slice_eq-Decides hop_decides xs ys (pointwise hop_eq.ghosts.eq xs ys) refl).0 h
+hops_eq_exact : (xs ys : List WHop) → pointwise whop_eq.ghosts.eq xs ys ≡ true → xs ≡ ys
+hops_eq_exact xs ys h = (slice_eq-Decides whop_decides xs ys (pointwise whop_eq.ghosts.eq xs ys) refl).0 h
 
 goal_exact : (a b : Goal) → goal_eq.ghosts.eq a b ≡ true → a ≡ b
 goal_exact goal.Drop goal.Drop h = refl
@@ -57,7 +57,7 @@ thing-exact (thing.Own x) (thing.Own y) h = ap thing.Own (ip-exact x y h)
 thing-exact (thing.Neighbor x a) (thing.Neighbor y b) h = let parts = and_parts _ _ h in ap₂ thing.Neighbor (hop-same x y parts.0) (mac_exact a b parts.1)
 thing-exact (thing.NextHop x) (thing.NextHop y) h = ap thing.NextHop (hop-same x y h)
 thing-exact (thing.Group x) (thing.Group y) h = ap thing.Group (hops_eq_exact x y h)
-thing-exact (thing.GroupMember x a) (thing.GroupMember y b) h = let parts = and_parts _ _ h in ap₂ thing.GroupMember (hops_eq_exact x y parts.0) (hop-same a b parts.1)
+thing-exact (thing.GroupMember x a) (thing.GroupMember y b) h = let parts = and_parts _ _ h in ap₂ thing.GroupMember (hops_eq_exact x y parts.0) (whop-same a b parts.1)
 thing-exact (thing.Route p g) (thing.Route q k) h = let parts = and_parts _ _ h in ap₂ thing.Route (prefix-exact p q parts.0) (goal_exact g k parts.1)
 thing-exact (thing.Port p) (thing.Port q) h = ap thing.Port (port_exact p q h)
 thing-exact _ _ h = absurd (false≢true h)

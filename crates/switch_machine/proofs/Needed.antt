@@ -17,7 +17,7 @@ use Rattle.sai_types.specs.declared.body.Call.TheVariants as call
 use Rattle.sai_types.specs.declared.body.Entry.TheVariants as entry
 use Rattle.sai_types.specs.declared.kind.Kind.TheVariants as kind
 use Rattle.sai_types.specs.declared.hop.Base.TheVariants as base
-use Rattle.sai_types.specs.declared.hop.Hop.{Hop}
+use Rattle.sai_types.specs.declared.weight.WHop.{WHop}
 use Rattle.sai_types.specs.declared.thing.Goal.TheVariants as goal
 use Rattle.sai_types.specs.declared.thing.Thing.{Thing}
 use Rattle.sai_types.specs.declared.thing.Thing.TheVariants as thing
@@ -101,10 +101,10 @@ fault-is_told x = elim (x.tied (entry.Oid (record { 0 = 1 })) (body.Vlan 5) refl
 
 -- ---- a route points at its group before the last member is made: the second of two neighbours on VLAN 5
 
-abbrev hop_on : ℕ → Hop
-hop_on n = record { on = base.Vlan 5; ip = record { family = V4; bits = n } }
+abbrev hop_on : ℕ → WHop
+hop_on n = record { hop = record { on = base.Vlan 5; ip = record { family = V4; bits = n } }; weight = 1 }
 
-abbrev two_hops : List Hop
+abbrev two_hops : List WHop
 two_hops = hop_on 1 ∷ hop_on 2 ∷ []
 
 abbrev all_routes : Prefix
@@ -122,7 +122,7 @@ last-member_stands plan x = none (x.steady (key.Route all_routes) (owner.Group t
     none : StandsIn half_built (thing.GroupMember two_hops (hop_on 2)) → ⊥
     none (i, inl e) = let t = ap (λ (z : Rid × Thing). z.1) e in cc
     none (i, inr (inl e)) = let t = ap (λ (z : Rid × Thing). z.1) e in cc
-    none (i, inr (inr (inl e))) = let t : thing.GroupMember two_hops (hop_on 2) ≡ thing.GroupMember two_hops (hop_on 1) = ap (λ (z : Rid × Thing). z.1) e in let h : hop_on 2 ≡ hop_on 1 = cc in let n = ap (λ (z : Hop). z.ip.bits) h in absurd (omega (arith, n))
+    none (i, inr (inr (inl e))) = let t : thing.GroupMember two_hops (hop_on 2) ≡ thing.GroupMember two_hops (hop_on 1) = ap (λ (z : Rid × Thing). z.1) e in let h : hop_on 2 ≡ hop_on 1 = cc in let n = ap (λ (z : WHop). z.hop.ip.bits) h in absurd (omega (arith, n))
     none (i, inr (inr (inr h))) = elim h [ ]
 
 -- ---- a bridge port goes before its member: the first port, in VLAN 5

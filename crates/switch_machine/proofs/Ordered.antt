@@ -1,6 +1,5 @@
 -- the orders of operations fit the references of each table's things
 use Rattle.std.proofs.Common.{◌≡◌, ◌⊎◌, ◌∷◌, ◌++◌, ◌∙◌, inl, inr, ℕ, List, [], map, Option, None, Some, refl, sym, ap, subst}
-use Rattle.std.specs.BTreeSet.{insert_key}
 use Rattle.std.specs.List.{AllByRecursion}
 use Rattle.std.specs.List.Sorted.{IsStrictlySortedBy}
 use Rattle.std.specs.Cmp.{eq_by_cmp_equiv}
@@ -20,16 +19,17 @@ use Rattle.table_schema.specs.declared.row.Row.TheVariants as row
 use Rattle.table_schema.specs.declared.row.RouteRow.TheVariants as route
 use Rattle.table_schema.specs.declared.row_hop.RowHop.{RowHop}
 use Rattle.sai_types.specs.declared.hop.Base.{Base}
-use Rattle.sai_types.specs.declared.hop.Hop.{Hop}
+use Rattle.sai_types.specs.declared.weight.WHop.{WHop}
 use Rattle.sai_types.specs.declared.thing.Thing.{Thing}
 use Rattle.sai_types.specs.declared.thing.Thing.TheVariants as thing
 use Rattle.sai_types.specs.Alike.{IsIn}
-use Rattle.sai_types.specs.Named.{hop_cmp}
-use Rattle.switch_model.specs.Things.{base_of, hop_of, hops_of, lane_of, members_of}
+use Rattle.sai_types.specs.Hop.{AreRisingHops, by_hop, put_hop}
+use Rattle.switch_model.specs.Things.{base_of, hops_of, lane_of, members_of, whop_of}
 use Rattle.sai_types.specs.Names as name
 use Rattle.sai_types.specs.Names.{ThingName, Refers, name_of}
 use Rattle.sai_types.proofs.Things.{both_mapped}
-use Rattle.sai_types.proofs.Rising.{hop_exact, hop_total, rising-insert}
+use Rattle.sai_types.proofs.Rising.{hop_total}
+use Rattle.sai_types.proofs.Weights.{rising-none, rising-put}
 use Rattle.row_layout.specs.Rows as owner
 use Rattle.row_layout.specs.Rows.{Owner, from, goal_of, own_things}
 use Rattle.row_layout.specs.Shared.{shared_things, uses}
@@ -41,20 +41,19 @@ use Rattle.row_layout.specs.Operations.{going, shared_going}
 use Rattle.switch_machine.proofs.Running.{one_owner, row_keys, shared_row}
 use Rattle.switch_machine.proofs.Tabled.{Leads, address_use, group_use, member_of, own_refers_by, shared_refers_by, tabled}
 
-rising_hops : (plan : Ports) (hops : List RowHop) (group : List Hop) → hops_of plan hops ≡ Some group → IsStrictlySortedBy hop_cmp group
-unfolding IsStrictlySortedBy
-rising_hops plan [] group e = let same : [] ≡ group = cc in subst (IsStrictlySortedBy hop_cmp) same tt
+rising_hops : (plan : Ports) (hops : List (RowHop × ℕ)) (group : List WHop) → hops_of plan hops ≡ Some group → AreRisingHops group
+rising_hops plan [] group e = let same : [] ≡ group = cc in subst AreRisingHops same rising-none
 rising_hops plan (x ∷ xs) group e =
-    let parts = both_mapped (insert_key hop_cmp) (hops_of plan xs) (hop_of plan x) group e in
-    subst (IsStrictlySortedBy hop_cmp) parts.4 (rising-insert hop_cmp hop_total hop_exact parts.0 parts.1 (rising_hops plan xs parts.0 parts.2))
+    let parts = both_mapped put_hop (hops_of plan xs) (whop_of plan x) group e in
+    subst AreRisingHops parts.4 (rising-put parts.1 parts.0 (rising_hops plan xs parts.0 parts.2))
 
 -- what uses a group has its hops
-pub group_rising : (plan : Ports) (k : Key) (r : Row) (o : Owner) (hops : List Hop) → IsIn o (uses plan k r) → o ≡ owner.Group hops → IsStrictlySortedBy hop_cmp hops
+pub group_rising : (plan : Ports) (k : Key) (r : Row) (o : Owner) (hops : List WHop) → IsIn o (uses plan k r) → o ≡ owner.Group hops → AreRisingHops hops
 group_rising plan (key.Route prefix) (row.Route (route.Hops rows)) o hops h e =
     let x = group_use o (hops_of plan rows) h in
     let same : owner.Group x.0 ≡ owner.Group hops = sym x.2 ∙ e in
     let that : x.0 ≡ hops = cc in
-    subst (IsStrictlySortedBy hop_cmp) that (rising_hops plan rows x.0 x.1)
+    subst AreRisingHops that (rising_hops plan rows x.0 x.1)
 group_rising plan (key.Route prefix) (row.Route route.Drop) o hops h e = elim h [ ]
 group_rising plan (key.Route prefix) (row.Route (route.Direct i)) o hops h e = elim h [ ]
 group_rising plan (key.Member v p) (row.Member t) o hops h e = absurd (only (λ o. o ≡ owner.Group hops → ⊥) o _ (λ z. cc) (from_in (lane_of plan p) (λ lane. owner.Bridge lane ∷ []) o h).2 e)
@@ -63,7 +62,7 @@ group_rising plan _ _ o hops h e = elim h [ ]
 
 -- ---- a row doesn't name itself
 
-hop_keys : (hops : List RowHop) (p : Key) (prefix : Prefix) → IsIn p (map (λ (h : RowHop). key.Neigh h.on h.ip) hops) → p ≡ key.Route prefix → ⊥
+hop_keys : (hops : List (RowHop × ℕ)) (p : Key) (prefix : Prefix) → IsIn p (map (λ (h : RowHop × ℕ). key.Neigh h.0.on h.0.ip) hops) → p ≡ key.Route prefix → ⊥
 hop_keys [] p prefix h e = elim h [ ]
 hop_keys (x ∷ xs) p prefix (inl is) e = let z = sym is ∙ e in cc
 hop_keys (x ∷ xs) p prefix (inr h) e = hop_keys xs p prefix h e
@@ -187,26 +186,26 @@ going_by plan _ _ u t h g before = elim h [ ]
 
 -- ---- groups
 
-hop_less_than_rest : (x y : Hop) (xs : List Hop) → AllByRecursion (λ z. hop_cmp x z ≡ Less) xs → IsIn y xs → hop_cmp x y ≡ Less
+hop_less_than_rest : (x y : WHop) (xs : List WHop) → AllByRecursion (λ z. by_hop x z ≡ Less) xs → IsIn y xs → by_hop x y ≡ Less
 hop_less_than_rest x y [] a h = elim h [ ]
-hop_less_than_rest x y (z ∷ zs) a (inl e) = subst (λ w. hop_cmp x w ≡ Less) (sym e) a.0
+hop_less_than_rest x y (z ∷ zs) a (inl e) = subst (λ w. by_hop x w ≡ Less) (sym e) a.0
 hop_less_than_rest x y (z ∷ zs) a (inr h) = hop_less_than_rest x y zs a.1 h
 
 less_equal : Less ≡ Equal → ⊥
 less_equal h = cc
 
-members_apart : (all hops : List Hop) → IsStrictlySortedBy hop_cmp hops → AreNamedApart (members_of all hops)
+members_apart : (all hops : List WHop) → AreRisingHops hops → AreNamedApart (members_of all hops)
 unfolding IsStrictlySortedBy
 members_apart all [] rising = tt
 members_apart all (x ∷ xs) rising = (λ y h e. other y (member_of all xs y h) e, members_apart all xs rising.1)
   where
-    other : (y : Thing) → ((hop : Hop) × IsIn hop xs × (y ≡ thing.GroupMember all hop)) → name_of y ≡ name.GroupMember all x → ⊥
+    other : (y : Thing) → ((hop : WHop) × IsIn hop xs × (y ≡ thing.GroupMember all hop)) → name_of y ≡ name.GroupMember all x → ⊥
     other y (hop, h, is) e =
         let z : name.GroupMember all hop ≡ name.GroupMember all x = sym (ap name_of is) ∙ e in
         let same : hop ≡ x = cc in
-        less_equal (sym (subst (λ w. hop_cmp x w ≡ Less) same (hop_less_than_rest x hop xs rising.0 h)) ∙ tied (hop_cmp x x) ((eq_by_cmp_equiv hop_total).refl x))
+        less_equal (sym (subst (λ w. by_hop x w ≡ Less) same (hop_less_than_rest x hop xs rising.0 h)) ∙ tied (by_hop x x) ((eq_by_cmp_equiv hop_total).refl x.hop))
 
-group_apart : (hops : List Hop) (y : Thing) → IsIn y (members_of hops hops) → name_of y ≡ name.Group hops → ⊥
+group_apart : (hops : List WHop) (y : Thing) → IsIn y (members_of hops hops) → name_of y ≡ name.Group hops → ⊥
 group_apart hops y h e =
     let m = member_of hops hops y h in
     let z : name.GroupMember hops m.0 ≡ name.Group hops = sym (ap name_of m.2) ∙ e in
@@ -276,11 +275,11 @@ bridge_refers lane h = only (λ n. n ≡ name.BridgePort lane → ⊥) (name.Bri
 own_refers_none : (ip : Ip) (n : ThingName) → Refers (thing.Own ip) n → ⊥
 own_refers_none ip n h = elim h [ ]
 
-group_refers_none : (hops : List Hop) (n : ThingName) → Refers (thing.Group hops) n → ⊥
+group_refers_none : (hops : List WHop) (n : ThingName) → Refers (thing.Group hops) n → ⊥
 group_refers_none hops n h = elim h [ ]
 
-member_refers_member : (hops : List Hop) (x y : Hop) → Refers (thing.GroupMember hops x) (name.GroupMember hops y) → ⊥
-member_refers_member hops x y h = two (λ n. n ≡ name.GroupMember hops y → ⊥) (name.GroupMember hops y) (name.Group hops) (name.NextHop x) (λ e. cc) (λ e. cc) h refl
+member_refers_member : (hops : List WHop) (x y : WHop) → Refers (thing.GroupMember hops x) (name.GroupMember hops y) → ⊥
+member_refers_member hops x y h = two (λ n. n ≡ name.GroupMember hops y → ⊥) (name.GroupMember hops y) (name.Group hops) (name.NextHop x.hop) (λ e. cc) (λ e. cc) h refl
 
 shared_before_by : (o : Owner) (u t : Thing) → IsIn u (shared_things o) → IsIn t (shared_things o) → Refers u (name_of t) → ComesBefore (name_of u) t (shared_going o)
 shared_before_by (owner.OfRow k) u t h g refers = elim h [ ]

@@ -8,7 +8,7 @@ use Rattle.table_schema.specs.declared.key.Key.{Key}
 use Rattle.table_schema.specs.declared.key.Key.TheVariants as key
 use Rattle.table_schema.specs.declared.row.Row.{Row}
 use Rattle.swss_types.specs.declared.address.Prefix.{Prefix}
-use Rattle.sai_types.specs.declared.hop.Hop.{Hop}
+use Rattle.sai_types.specs.declared.weight.WHop.{WHop}
 use Rattle.sai_types.specs.declared.kind.Kind.{Kind}
 use Rattle.sai_types.specs.declared.thing.Goal.{Goal}
 use Rattle.sai_types.specs.declared.thing.Goal.TheVariants as goal
@@ -68,7 +68,7 @@ module _ (plan : Ports) (is : IsPlan plan) (workers : ℕ) (capacities : List �
   closed k r at = all_rows s.machine.board.applied (names_of k r) (λ p h. ap is_some (kept.sound.board.named k p r (inl at) h).applied)
 
   -- the group that a route points at has all its members
-  pub route-whole : (prefix : Prefix) (hops : List Hop) (hop : Hop) → StandsIn s.machine (thing.Route prefix (goal.Group hops)) → IsIn hop hops → StandsIn s.machine (thing.GroupMember hops hop)
+  pub route-whole : (prefix : Prefix) (hops : List WHop) (hop : WHop) → StandsIn s.machine (thing.Route prefix (goal.Group hops)) → IsIn hop hops → StandsIn s.machine (thing.GroupMember hops hop)
   route-whole prefix hops hop h in_it = kept.sound.steady (key.Route prefix) (owner.Group hops) (thing.Route prefix (goal.Group hops)) (thing.GroupMember hops hop) (name.Group hops) h refl (inl refl) refl tt (inr (in_members hops hops hop in_it))
 
   -- a route that stands is that of its key's applied row, or of the row that an operation brings

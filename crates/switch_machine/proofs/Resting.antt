@@ -3,7 +3,7 @@ use Rattle.std.proofs.Common.{◌≡◌, ◌⊎◌, ◌∙◌, inl, inr, ℕ, Li
 use Rattle.table_schema.specs.Plan.{Ports}
 use Rattle.table_schema.specs.declared.key.Key.{Key}
 use Rattle.table_schema.specs.declared.row.Row.{Row}
-use Rattle.sai_types.specs.declared.hop.Hop.{Hop}
+use Rattle.sai_types.specs.declared.weight.WHop.{WHop}
 use Rattle.sai_types.specs.declared.thing.Thing.{Thing}
 use Rattle.sai_types.specs.declared.thing.Thing.TheVariants as thing
 use Rattle.sai_types.specs.Alike.{IsAlike, IsIn}
@@ -56,7 +56,7 @@ module _ (plan : Ports) (tables : TableLaws plan) (m : Machine) (sound : IsConsi
   back_by u k r at (inl h) = (sound.rest k u (rests k) (tables.own k r u (sound.board.fit k r (inl at)) h)).1 (subst (λ z. IsIn u (own_of plan k z)) (sym at) h)
   back_by u k r at (inr (o, h, in_it)) = whole k o u (user_of k r o at h) in_it
 
-  group_of : (u : Thing) (hops : List Hop) → StandsIn m u → owner.owner_of plan (name_of u) ≡ Some (owner.Group hops) → IsIn u (shared_things (owner.Group hops)) × ((k : Key) × (r : Row) × (m.board.applied k ≡ Some r) × IsIn (owner.Group hops) (uses plan k r))
+  group_of : (u : Thing) (hops : List WHop) → StandsIn m u → owner.owner_of plan (name_of u) ≡ Some (owner.Group hops) → IsIn u (shared_things (owner.Group hops)) × ((k : Key) × (r : Row) × (m.board.applied k ≡ Some r) × IsIn (owner.Group hops) (uses plan k r))
   group_of u hops h of = let x = sound.held (owner.Group hops) u h of tt in (x.0, user_applied (owner.Group hops) x.1)
 
   pub grouped : AreGrouped (listed m.stands)
@@ -66,7 +66,7 @@ module _ (plan : Ports) (tables : TableLaws plan) (m : Machine) (sound : IsConsi
     only = λ i hops hop h. only_by hops hop (group_of (thing.GroupMember hops hop) hops (i, h) refl).0;
   }
     where
-      only_by : (hops : List Hop) (hop : Hop) → IsIn (thing.GroupMember hops hop) (shared_things (owner.Group hops)) → IsIn hop hops
+      only_by : (hops : List WHop) (hop : WHop) → IsIn (thing.GroupMember hops hop) (shared_things (owner.Group hops)) → IsIn hop hops
       only_by hops hop (inl e) = absurd cc
       only_by hops hop (inr h) = member_hop hops hops hop h
 

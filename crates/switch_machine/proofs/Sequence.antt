@@ -14,7 +14,7 @@ use Rattle.table_schema.specs.declared.row.Row.{Row}
 use Rattle.table_schema.specs.declared.row.Row.TheVariants as row
 use Rattle.table_schema.specs.declared.row.RouteRow.TheVariants as route
 use Rattle.table_schema.proofs.Keys.{key_exact}
-use Rattle.sai_types.specs.declared.hop.Hop.{Hop}
+use Rattle.sai_types.specs.declared.weight.WHop.{WHop}
 use Rattle.sai_types.specs.declared.ids.Rid.{Rid}
 use Rattle.sai_types.specs.declared.body.Call.{Call}
 use Rattle.sai_types.specs.declared.thing.Thing.{Thing}
@@ -61,7 +61,7 @@ from_short : {X : Type 0} (x : Option X) (g : X → Owner) → IsShort (from x (
 from_short None g = inl refl
 from_short (Some x) g = inr (g x, refl)
 
-group_short : (hops : Option (List Hop)) → IsShort (group_by hops)
+group_short : (hops : Option (List WHop)) → IsShort (group_by hops)
 group_short None = inl refl
 group_short (Some []) = inl refl
 group_short (Some (hop ∷ [])) = inl refl

@@ -14,11 +14,12 @@ use Rattle.table_schema.proofs.Keys.{key_exact, key_total}
 use Rattle.sai_types.specs.declared.hop.Base.{Base}
 use Rattle.sai_types.specs.declared.hop.Base.TheVariants as base
 use Rattle.sai_types.specs.declared.hop.Hop.{Hop}
+use Rattle.sai_types.specs.declared.weight.WHop.{WHop}
 use Rattle.sai_types.specs.declared.thing.Thing.{Thing}
-use Rattle.sai_types.specs.Named.{hop_cmp}
+use Rattle.sai_types.specs.Named.{hop_cmp, whop_cmp}
 use Rattle.sai_types.specs.Alike.{IsIn}
 use Rattle.switch_model.specs.Good.{TypedRows}
-use Rattle.sai_types.proofs.Rising.{hop_exact, hop_total}
+use Rattle.sai_types.proofs.Rising.{hop_exact, hop_total, whop_exact, whop_total}
 use Rattle.sai_types.specs.Names as name
 use Rattle.sai_types.specs.Names.{ThingName}
 use Rattle.row_layout.specs.Rows as owner
@@ -44,6 +45,9 @@ key_split k q = by_bool k q (is_at (key_cmp k) q) (λ h. key_exact k q (tied (ke
 hop_split : (x y : Hop) → IsSplit x y
 hop_split x y = by_bool x y (is_at (hop_cmp x) y) (λ h. hop_exact x y (tied (hop_cmp x y) h)) (λ h. subst (λ z. is_at (hop_cmp x) z ≡ true) h ((eq_by_cmp_equiv hop_total).refl x))
 
+whop_split : (x y : WHop) → IsSplit x y
+whop_split x y = by_bool x y (is_at (whop_cmp x) y) (λ h. whop_exact x y (tied (whop_cmp x y) h)) (λ h. subst (λ z. is_at (whop_cmp x) z ≡ true) h ((eq_by_cmp_equiv whop_total).refl x))
+
 carried : {X Y : Type 0} (f : X → Y) (x y : X) → (f x ≡ f y → x ≡ y) → IsSplit x y → IsSplit (f x) (f y)
 carried f x y back (inl h) = inl (ap f h)
 carried f x y back (inr h) = inr (λ e. h (back e))
@@ -53,14 +57,14 @@ carried_both f x y a b back next (inl h) (inl g) = inl (ap₂ f h g)
 carried_both f x y a b back next (inr h) _ = inr (λ e. h (back e))
 carried_both f x y a b back next (inl h) (inr g) = inr (λ e. g (next e))
 
-abbrev cons : Hop → List Hop → List Hop
+abbrev cons : WHop → List WHop → List WHop
 cons x xs = x ∷ xs
 
-hops_split : (xs ys : List Hop) → IsSplit xs ys
+hops_split : (xs ys : List WHop) → IsSplit xs ys
 hops_split [] [] = inl refl
 hops_split [] (y ∷ ys) = inr (λ h. cc)
 hops_split (x ∷ xs) [] = inr (λ h. cc)
-hops_split (x ∷ xs) (y ∷ ys) = carried_both cons x y xs ys (λ h. cc) (λ h. cc) (hop_split x y) (hops_split xs ys)
+hops_split (x ∷ xs) (y ∷ ys) = carried_both cons x y xs ys (λ h. cc) (λ h. cc) (whop_split x y) (hops_split xs ys)
 
 -- an address is told by its hop
 abbrev hop_with : Ip → Hop
@@ -103,7 +107,7 @@ name_split (name.Own x) (name.Own y) = carried name.Own x y (λ h. cc) (ip_split
 name_split (name.Neighbor x) (name.Neighbor y) = carried name.Neighbor x y (λ h. cc) (hop_split x y)
 name_split (name.NextHop x) (name.NextHop y) = carried name.NextHop x y (λ h. cc) (hop_split x y)
 name_split (name.Group x) (name.Group y) = carried name.Group x y (λ h. cc) (hops_split x y)
-name_split (name.GroupMember x a) (name.GroupMember y b) = carried_both name.GroupMember x y a b (λ h. cc) (λ h. cc) (hops_split x y) (hop_split a b)
+name_split (name.GroupMember x a) (name.GroupMember y b) = carried_both name.GroupMember x y a b (λ h. cc) (λ h. cc) (hops_split x y) (whop_split a b)
 name_split (name.Route x) (name.Route y) = carried name.Route x y (λ h. cc) (prefix_split x y)
 name_split m n = inr (λ h. cc)
 

@@ -12,6 +12,7 @@ use Rattle.table_schema.specs.declared.key.Key.TheVariants as key
 use Rattle.table_schema.specs.declared.row.Row.{Row}
 use Rattle.table_schema.specs.declared.row.Row.TheVariants as row
 use Rattle.sai_types.specs.declared.hop.Hop.{Hop}
+use Rattle.sai_types.specs.declared.weight.WHop.{WHop}
 use Rattle.sai_types.specs.declared.ids.Rid.{Rid}
 use Rattle.sai_types.specs.declared.body.Call.{Call}
 use Rattle.sai_types.specs.declared.thing.Goal.{Goal}
@@ -81,12 +82,12 @@ module _ (ts us : List Thing) (a : Packet) (routes : AreRoutes us) (macs : HaveO
           let here = same.back (thing.Neighbor hop n) tt (mac_from us hop n h) in
           sym e ∙ mac_in ts hop n here (λ m g. macs hop m n (same.into (thing.Neighbor hop m) tt g) (mac_from us hop n h))
 
-  abbrev with_mac : List Thing → Hop → Hop × Option Mac
-  with_mac xs h = (h, hop_mac xs h)
+  abbrev with_mac : List Thing → WHop → WHop × Option Mac
+  with_mac xs h = (h, hop_mac xs h.hop)
 
-  hops_same : (hops : List Hop) → map (with_mac ts) hops ≡ map (with_mac us) hops
+  hops_same : (hops : List WHop) → map (with_mac ts) hops ≡ map (with_mac us) hops
   hops_same [] = refl
-  hops_same (h ∷ hops) = let pair : Option Mac → List (Hop × Option Mac) → List (Hop × Option Mac) = λ m rest. (h, m) ∷ rest in ap₂ pair (mac_same h) (hops_same hops)
+  hops_same (h ∷ hops) = let pair : Option Mac → List (WHop × Option Mac) → List (WHop × Option Mac) = λ m rest. (h, m) ∷ rest in ap₂ pair (mac_same h.hop) (hops_same hops)
 
   forwards : (d : Decision) → forwarding_of ts d ≡ forwarding_of us d
   forwards decision.Cpu = refl
@@ -167,7 +168,7 @@ module _ (plan : Ports) (is : IsPlan plan) (workers : ℕ) (capacities : List �
   bears_route prefix (name.Neighbor hop) of b = let m = mapped (λ n. OfRow (key.Neigh n hop.ip)) _ (OfRow (key.Route prefix)) of in let e = m.2 in absurd cc
   bears_route prefix _ of b = elim b [ ]
 
-  bears_group : (hops : List Hop) (n : ThingName) → IsOwnedBy plan n (owner.Group hops) → Bears n → ⊥
+  bears_group : (hops : List WHop) (n : ThingName) → IsOwnedBy plan n (owner.Group hops) → Bears n → ⊥
   bears_group hops (name.Route p) of b = cc
   bears_group hops (name.Own ip) of b = cc
   bears_group hops (name.Neighbor hop) of b = let m = mapped (λ n. OfRow (key.Neigh n hop.ip)) _ (owner.Group hops) of in let e = m.2 in cc

@@ -16,7 +16,7 @@ use Rattle.table_schema.specs.declared.row.RouteRow.TheVariants as route
 use Rattle.table_schema.specs.declared.row_hop.RowHop.{RowHop}
 use Rattle.sai_types.specs.declared.hop.Base.{Base}
 use Rattle.sai_types.specs.declared.hop.Base.TheVariants as base
-use Rattle.sai_types.specs.declared.hop.Hop.{Hop}
+use Rattle.sai_types.specs.declared.weight.WHop.{WHop}
 use Rattle.sai_types.specs.declared.thing.Goal.{Goal}
 use Rattle.sai_types.specs.declared.thing.Goal.TheVariants as goal
 use Rattle.sai_types.specs.declared.thing.Thing.{Thing}
@@ -55,24 +55,24 @@ neigh_gives n a b (inl is) = (a, inl refl, sym is)
 neigh_gives n a b (inr (inl is)) = (b, inr (inl refl), sym is)
 neigh_gives n a b (inr (inr h)) = elim h [ ]
 
-pub member_of : (all hops : List Hop) (u : Thing) → IsIn u (members_of all hops) → (hop : Hop) × IsIn hop hops × (u ≡ thing.GroupMember all hop)
+pub member_of : (all hops : List WHop) (u : Thing) → IsIn u (members_of all hops) → (hop : WHop) × IsIn hop hops × (u ≡ thing.GroupMember all hop)
 member_of all [] u h = elim h [ ]
 member_of all (hop ∷ hops) u (inl e) = (hop, inl refl, e)
 member_of all (hop ∷ hops) u (inr h) = let x = member_of all hops u h in (x.0, inr x.1, x.2)
 
-pub group_use : (o : Owner) (hops : Option (List Hop)) → IsIn o (group_by hops) → (group : List Hop) × (hops ≡ Some group) × (o ≡ owner.Group group)
+pub group_use : (o : Owner) (hops : Option (List WHop)) → IsIn o (group_by hops) → (group : List WHop) × (hops ≡ Some group) × (o ≡ owner.Group group)
 group_use o None h = elim h [ ]
 group_use o (Some []) h = elim h [ ]
 group_use o (Some (hop ∷ [])) h = elim h [ ]
 group_use o (Some (hop ∷ next ∷ hops)) (inl e) = (hop ∷ next ∷ hops, refl, e)
 group_use o (Some (hop ∷ next ∷ hops)) (inr h) = elim h [ ]
 
-pub in_members : (all hops : List Hop) (hop : Hop) → IsIn hop hops → IsIn (thing.GroupMember all hop) (members_of all hops)
+pub in_members : (all hops : List WHop) (hop : WHop) → IsIn hop hops → IsIn (thing.GroupMember all hop) (members_of all hops)
 in_members all [] hop h = elim h [ ]
 in_members all (x ∷ xs) hop (inl e) = inl (ap (thing.GroupMember all) e)
 in_members all (x ∷ xs) hop (inr h) = inr (in_members all xs hop h)
 
-pub member_hop : (all hops : List Hop) (hop : Hop) → IsIn (thing.GroupMember all hop) (members_of all hops) → IsIn hop hops
+pub member_hop : (all hops : List WHop) (hop : WHop) → IsIn (thing.GroupMember all hop) (members_of all hops) → IsIn hop hops
 member_hop all hops hop h = let x = member_of all hops (thing.GroupMember all hop) h in let same : x.0 ≡ hop = cc in subst (λ z. IsIn z hops) same x.1
 
 -- what an address row uses is its own address
@@ -148,26 +148,26 @@ module _ (plan : Ports) (is : IsPlan plan) where
   intf_leads (on.Loopback l) r b at = absurd cc
 
   -- a hop of a route is of a neighbour that the route names
-  hop_leads : (prefix : Prefix) (hops : List RowHop) (group : List Hop) (hop : Hop) → hops_of plan hops ≡ Some group → IsIn hop group → IsNamed plan (key.Route prefix) (row.Route (route.Hops hops)) (name.NextHop hop)
+  hop_leads : (prefix : Prefix) (hops : List (RowHop × ℕ)) (group : List WHop) (hop : WHop) → hops_of plan hops ≡ Some group → IsIn hop group → IsNamed plan (key.Route prefix) (row.Route (route.Hops hops)) (name.NextHop hop.hop)
   hop_leads prefix hops group hop e h =
       let x = hop_from plan hops group hop e h in
-      let m = mapped (λ b. record { on = b; ip = x.0.ip }) (base_of plan x.0.on) hop x.2 in
+      let m = mapped (λ b. record { on = b; ip = x.0.0.ip }) (base_of plan x.0.0.on) hop.hop x.2 in
       subst (λ z. IsNamed plan (key.Route prefix) (row.Route (route.Hops hops)) (name.NextHop z)) m.2 (record {
-        by = key.Neigh x.0.on x.0.ip;
-        named = in_map (λ (h : RowHop). key.Neigh h.on h.ip) x.0 hops x.1;
-        own = in_from (base_of plan x.0.on) _ m.0 (name.NextHop (record { on = m.0; ip = x.0.ip })) m.1 (inr (inl refl));
+        by = key.Neigh x.0.0.on x.0.0.ip;
+        named = in_map (λ (h : RowHop × ℕ). key.Neigh h.0.on h.0.ip) x.0 hops x.1;
+        own = in_from (base_of plan x.0.0.on) _ m.0 (name.NextHop (record { on = m.0; ip = x.0.0.ip })) m.1 (inr (inl refl));
       })
 
   abbrev RouteLeads : Prefix → RouteRow → Goal → Type 0
   RouteLeads prefix r g = LeadAll (key.Route prefix) (row.Route r) (thing.Route prefix g)
 
-  goal_leads : (prefix : Prefix) (hops : List RowHop) (o : Option (List Hop)) (g : Goal) → hops_of plan hops ≡ o → goal_to o ≡ Some g → RouteLeads prefix (route.Hops hops) g
+  goal_leads : (prefix : Prefix) (hops : List (RowHop × ℕ)) (o : Option (List WHop)) (g : Goal) → hops_of plan hops ≡ o → goal_to o ≡ Some g → RouteLeads prefix (route.Hops hops) g
   goal_leads prefix hops None g at e = absurd cc
   goal_leads prefix hops (Some []) g at e = absurd cc
   goal_leads prefix hops (Some (hop ∷ [])) g at e =
-      let is : goal.Via hop ≡ g = cc in
+      let is : goal.Via hop.hop ≡ g = cc in
       subst (RouteLeads prefix (route.Hops hops)) is
-      (λ n h. only (Leads (key.Route prefix) (row.Route (route.Hops hops)) (thing.Route prefix (goal.Via hop))) n (name.NextHop hop) (inl (hop_leads prefix hops (hop ∷ []) hop at (inl refl))) h)
+      (λ n h. only (Leads (key.Route prefix) (row.Route (route.Hops hops)) (thing.Route prefix (goal.Via hop.hop))) n (name.NextHop hop.hop) (inl (hop_leads prefix hops (hop ∷ []) hop at (inl refl))) h)
   goal_leads prefix hops (Some (hop ∷ next ∷ more)) g at e =
       let all = hop ∷ next ∷ more in
       let is : goal.Group all ≡ g = cc in
@@ -237,12 +237,12 @@ module _ (plan : Ports) (is : IsPlan plan) where
       let x = group_use o (hops_of plan hops) h in
       subst (λ o. SharedLeadAll (key.Route prefix) (row.Route (route.Hops hops)) o u) (sym x.2) (group x.0 x.1 (subst (λ o. IsIn u (shared_things o)) x.2 in_it))
     where
-      member : (all : List Hop) (hop : Hop) → hops_of plan hops ≡ Some all → IsIn hop all → SharedLeadAll (key.Route prefix) (row.Route (route.Hops hops)) (owner.Group all) (thing.GroupMember all hop)
+      member : (all : List WHop) (hop : WHop) → hops_of plan hops ≡ Some all → IsIn hop all → SharedLeadAll (key.Route prefix) (row.Route (route.Hops hops)) (owner.Group all) (thing.GroupMember all hop)
       member all hop at i n e =
-          two (SharedLeads (key.Route prefix) (row.Route (route.Hops hops)) (owner.Group all) (thing.GroupMember all hop)) n (name.Group all) (name.NextHop hop)
+          two (SharedLeads (key.Route prefix) (row.Route (route.Hops hops)) (owner.Group all) (thing.GroupMember all hop)) n (name.Group all) (name.NextHop hop.hop)
           (inr (refl, inl (refl, in_members all all hop i))) (inl (hop_leads prefix hops all hop at i)) e
 
-      group : (all : List Hop) → hops_of plan hops ≡ Some all → IsIn u (shared_things (owner.Group all)) → SharedLeadAll (key.Route prefix) (row.Route (route.Hops hops)) (owner.Group all) u
+      group : (all : List WHop) → hops_of plan hops ≡ Some all → IsIn u (shared_things (owner.Group all)) → SharedLeadAll (key.Route prefix) (row.Route (route.Hops hops)) (owner.Group all) u
       group all at (inl e) = subst (SharedLeadAll (key.Route prefix) (row.Route (route.Hops hops)) (owner.Group all)) (sym e) (λ n x. elim x [ ])
       group all at (inr y) = let m = member_of all all u y in subst (SharedLeadAll (key.Route prefix) (row.Route (route.Hops hops)) (owner.Group all)) (sym m.2) (member all m.0 at m.1)
   shared_refers_by (key.Route prefix) (row.Route route.Drop) o u fit h in_it = elim h [ ]

@@ -10,7 +10,7 @@ ghost use Rattle.table_schema.specs.declared.row.Row.{Row};
 ghost use Rattle.table_schema.specs.declared.write.Sent.{Sent};
 ghost use Rattle.sai_types.specs.declared.ids.Rid.{Rid};
 ghost use Rattle.sai_types.specs.declared.body.Call.{Call};
-ghost use Rattle.sai_types.specs.declared.hop.Hop.{Hop};
+ghost use Rattle.sai_types.specs.declared.weight.WHop.{WHop};
 ghost use Rattle.sai_types.specs.declared.kind.Kind.{Kind};
 ghost use Rattle.sai_types.specs.declared.thing.Goal.{Goal};
 ghost use Rattle.sai_types.specs.declared.thing.Goal.TheVariants as goal;
@@ -70,7 +70,7 @@ pub fn rest_is_alike()
 pub fn routes_are_whole()
     ensures rows { (plan : Ports) (workers : ℕ) (capacities : List ℕ) (s : SwitchState) (prefix : Prefix) (g : Goal) → IsPlan plan → IsSafe plan workers capacities s → StandsIn s.machine (thing.Route prefix g) → (r : Row) × IsRow s.machine.board (key.Route prefix) r × IsIn (thing.Route prefix g) (own_things plan (key.Route prefix) r) }
     ensures written { (plan : Ports) (workers : ℕ) (capacities : List ℕ) (s : SwitchState) (prefix : Prefix) (g : Goal) → IsPlan plan → IsSafe plan workers capacities s → StandsIn s.machine (thing.Route prefix g) → (r : Row) × IsGoodOnce plan s.written.taken (key.Route prefix) r × IsIn (thing.Route prefix g) (own_things plan (key.Route prefix) r) }
-    ensures members { (plan : Ports) (workers : ℕ) (capacities : List ℕ) (s : SwitchState) (prefix : Prefix) (hops : List Hop) (hop : Hop) → IsPlan plan → IsSafe plan workers capacities s → StandsIn s.machine (thing.Route prefix (goal.Group hops)) → IsIn hop hops → StandsIn s.machine (thing.GroupMember hops hop) }
+    ensures members { (plan : Ports) (workers : ℕ) (capacities : List ℕ) (s : SwitchState) (prefix : Prefix) (hops : List WHop) (hop : WHop) → IsPlan plan → IsSafe plan workers capacities s → StandsIn s.machine (thing.Route prefix (goal.Group hops)) → IsIn hop hops → StandsIn s.machine (thing.GroupMember hops hop) }
 {}
 
 /// While no operation is under way a reason for which a key waits is true, and a kind that lacks room is the first such kind.

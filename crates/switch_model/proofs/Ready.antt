@@ -68,7 +68,7 @@ bases_below (name.Ethernet port) = (omega arith, tt)
 bases_below (name.Vlan vlan) = (omega arith, tt)
 bases_below (name.Loopback number) = tt
 
-hops_below : (hops : List RowHop) → AreBelow 3 (map (λ h. key.Neigh h.on h.ip) hops)
+hops_below : (hops : List (RowHop × ℕ)) → AreBelow 3 (map (λ h. key.Neigh h.0.on h.0.ip) hops)
 hops_below [] = tt
 hops_below (h ∷ hs) = (omega arith, hops_below hs)
 

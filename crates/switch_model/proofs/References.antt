@@ -1,12 +1,8 @@
 -- whatever a thing of closed rows that read refers to is a thing of them
 use Rattle.std.proofs.Common.{◌≡◌, inl, inr, ℕ, true, List, [], ◌∷◌, map, Option, None, Some, refl, sym, ap, ◌∙◌, subst}
 use Rattle.std.proofs.lemmas.Bool.{and_parts}
-use Rattle.std.specs.BTreeSet.{insert_key}
 use Rattle.std.specs.Option.{is_some}
-use Rattle.std.specs.Ordering.{match_ordering}
 use Rattle.std.specs.Prelude.{option_map}
-use Rattle.std.specs.declared.cmp.Ordering.{Ordering}
-use Rattle.std.specs.declared.cmp.Ordering.TheVariants.{Less, Equal, Greater}
 use Rattle.swss_types.specs.declared.address.Ip.{Ip}
 use Rattle.swss_types.specs.declared.address.Mac.{Mac}
 use Rattle.swss_types.specs.declared.address.Prefix.{Prefix}
@@ -27,18 +23,21 @@ use Rattle.table_schema.specs.declared.row_hop.RowHop.{RowHop}
 use Rattle.sai_types.specs.declared.hop.Base.{Base}
 use Rattle.sai_types.specs.declared.hop.Base.TheVariants as base
 use Rattle.sai_types.specs.declared.hop.Hop.{Hop}
+use Rattle.sai_types.specs.declared.weight.WHop.{WHop}
 use Rattle.sai_types.specs.declared.thing.Goal.TheVariants as goal
 use Rattle.sai_types.specs.declared.thing.Thing.{Thing}
 use Rattle.sai_types.specs.declared.thing.Thing.TheVariants as thing
 use Rattle.sai_types.specs.Alike.{IsIn}
-use Rattle.sai_types.specs.Named.{first_lane, hop_cmp}
+use Rattle.sai_types.specs.Hop.{put_hop}
+use Rattle.sai_types.specs.Named.{first_lane}
 use Rattle.sai_types.specs.Names as thing_name
 use Rattle.sai_types.specs.Names.{ThingName, base_name, name_of, thing_references}
 use Rattle.sai_types.proofs.Things.{both_mapped}
+use Rattle.sai_types.proofs.Weights.{put-back}
 use Rattle.switch_model.specs.Desired.{IsClosed, IsThingOf, desired_view, have_rows, ready_rows}
 use Rattle.switch_model.specs.Good.{TypedRows, good_rows}
 use Rattle.switch_model.specs.References.{IsSelfContained}
-use Rattle.switch_model.specs.Things.{address_things, base_of, from_base, from_hops, from_lane, hop_of, hops_of, lane_of, members_of, route_things, route_to, things_of}
+use Rattle.switch_model.specs.Things.{address_things, base_of, from_base, from_hops, from_lane, hop_of, hops_of, lane_of, members_of, route_things, route_to, things_of, whop_of}
 use Rattle.switch_model.proofs.ReadRows.{IsRead, IsRead-good, intf_read, neigh_read, port_read, vlan_read}
 use Rattle.switch_model.proofs.Ready.{IsClosed-ready, ready-there}
 
@@ -67,14 +66,9 @@ one_of P x [] all h = absurd h
 one_of P x (y ∷ ys) all (inl e) = subst P (sym e) all.0
 one_of P x (y ∷ ys) all (inr h) = one_of P x ys all.1 h
 
-AllIn-insert : {X : Type 0} (P : X → Type 0) (cmp : X → X → Ordering) (xs : List X) (x : X) → P x → AllIn P xs → AllIn P (insert_key cmp xs x)
-AllIn-insert P cmp [] x h all = (h, tt)
-AllIn-insert P cmp (y ∷ ys) x h all = by (cmp x y) (AllIn-insert P cmp ys x h all.1)
-  where
-    by : (o : Ordering) → AllIn P (insert_key cmp ys x) → AllIn P (match_ordering o (x ∷ y ∷ ys) (y ∷ ys) (y ∷ insert_key cmp ys x))
-    by Less more = (h, all)
-    by Equal more = all
-    by Greater more = (all.0, more)
+all_of : {X : Type 0} (P : X → Type 0) (xs : List X) → ((x : X) → IsIn x xs → P x) → AllIn P xs
+all_of P [] each = tt
+all_of P (x ∷ xs) each = (each x (inl refl), all_of P xs (λ y h. each y (inr h)))
 
 module _ (plan : Ports) (rows : TypedRows) (closed : IsClosed rows) (read : (k : Key) (r : Row) → rows k ≡ Some r → IsRead plan k r) where
   -- some thing of the rows has the name
@@ -128,22 +122,30 @@ module _ (plan : Ports) (rows : TypedRows) (closed : IsClosed rows) (read : (k :
       met_by (key.Neigh on ip) (row.Neigh mac.0) (thing.NextHop (through b ip)) (is ∙ ap Some mac.1)
       (subst (λ o. IsIn (thing.NextHop (through b ip)) (from_base (λ b. thing.Neighbor (through b ip) mac.0 ∷ thing.NextHop (through b ip) ∷ []) o)) (sym at) (inr (inl refl)))
 
-  hops_met : (hops : List RowHop) (group : List Hop) → have_rows rows (map (λ h. key.Neigh h.on h.ip) hops) ≡ true → hops_of plan hops ≡ Some group → AllIn IsHopMet group
-  hops_met [] group named h = let is : [] ≡ group = cc in subst (AllIn IsHopMet) is tt
-  hops_met (hop ∷ hops) group named h =
-      let first = and_parts (is_some (rows (key.Neigh hop.on hop.ip))) (have_rows rows (map (λ h. key.Neigh h.on h.ip) hops)) named in
-      let there = row_there (rows (key.Neigh hop.on hop.ip)) first.0 in
-      let parts = both_mapped (insert_key hop_cmp) (hops_of plan hops) (hop_of plan hop) group h in
-      let on = mapped (λ b. through b hop.ip) (base_of plan hop.on) parts.1 parts.3 in
-      let here = subst IsHopMet on.2 (hop_met hop.on hop.ip on.0 there.0 there.1 on.1) in
-      subst (AllIn IsHopMet) parts.4 (AllIn-insert IsHopMet hop_cmp parts.0 parts.1 here (hops_met hops parts.0 first.1 parts.2))
+  -- each hop of the chip, whatever its weight, is a hop of the row
+  hop_in : (hops : List (RowHop × ℕ)) (group : List WHop) → have_rows rows (map (λ h. key.Neigh h.0.on h.0.ip) hops) ≡ true → hops_of plan hops ≡ Some group → (w : WHop) → IsIn w group → IsHopMet w.hop
+  hop_in [] group named h w i = let is : group ≡ [] = cc in elim (subst (IsIn w) is i) [ ]
+  hop_in (hop ∷ hops) group named h w i =
+      let first = and_parts (is_some (rows (key.Neigh hop.0.on hop.0.ip))) (have_rows rows (map (λ h. key.Neigh h.0.on h.0.ip) hops)) named in
+      let there = row_there (rows (key.Neigh hop.0.on hop.0.ip)) first.0 in
+      let parts = both_mapped put_hop (hops_of plan hops) (whop_of plan hop) group h in
+      let weighed = mapped (λ z. record { hop = z; weight = hop.1 }) (hop_of plan hop.0) parts.1 parts.3 in
+      let on = mapped (λ b. through b hop.0.ip) (base_of plan hop.0.on) weighed.0 weighed.1 in
+      let here : IsHopMet (parts.1).hop = subst IsHopMet (on.2 ∙ ap (λ (z : WHop). z.hop) weighed.2) (hop_met hop.0.on hop.0.ip on.0 there.0 there.1 on.1) in
+      elim (put-back parts.1 w parts.0 (subst (IsIn w) (sym parts.4) i)) [ inl same ↦ subst IsHopMet (sym same) here | inr j ↦ hop_in hops parts.0 first.1 parts.2 w j ]
 
-  members_met : (group hops : List Hop) → IsMet (thing_name.Group group) → AllIn IsHopMet hops → AllIn AreMet (members_of group hops)
+  abbrev AreHopsMet : List WHop → Type 0
+  AreHopsMet hops = AllIn (λ (w : WHop). IsHopMet w.hop) hops
+
+  hops_met : (hops : List (RowHop × ℕ)) (group : List WHop) → have_rows rows (map (λ h. key.Neigh h.0.on h.0.ip) hops) ≡ true → hops_of plan hops ≡ Some group → AreHopsMet group
+  hops_met hops group named h = all_of (λ (w : WHop). IsHopMet w.hop) group (hop_in hops group named h)
+
+  members_met : (group hops : List WHop) → IsMet (thing_name.Group group) → AreHopsMet hops → AllIn AreMet (members_of group hops)
   members_met group [] whole all = tt
   members_met group (hop ∷ hops) whole all = ((whole, (all.0, tt)), members_met group hops whole all.1)
 
   -- a route's things
-  route_met : (prefix : Prefix) (group : List Hop) → AllIn IsHopMet group → ((y : Thing) → IsIn y (route_to prefix group) → IsMet (name_of y)) → AllIn AreMet (route_to prefix group)
+  route_met : (prefix : Prefix) (group : List WHop) → AreHopsMet group → ((y : Thing) → IsIn y (route_to prefix group) → IsMet (name_of y)) → AllIn AreMet (route_to prefix group)
   route_met prefix [] all there = tt
   route_met prefix (hop ∷ []) all there = ((all.0, tt), tt)
   route_met prefix (hop ∷ next ∷ hops) all there =
@@ -151,7 +153,7 @@ module _ (plan : Ports) (rows : TypedRows) (closed : IsClosed rows) (read : (k :
       let whole = there (thing.Group group) (inr (inl refl)) in
       ((whole, tt), (tt, members_met group group whole all))
 
-  hops_by : (prefix : Prefix) (hops : List RowHop) (o : Option (List Hop)) → rows (key.Route prefix) ≡ Some (row.Route (route.Hops hops)) → have_rows rows (map (λ h. key.Neigh h.on h.ip) hops) ≡ true → hops_of plan hops ≡ o → AllIn AreMet (from_hops prefix o)
+  hops_by : (prefix : Prefix) (hops : List (RowHop × ℕ)) (o : Option (List WHop)) → rows (key.Route prefix) ≡ Some (row.Route (route.Hops hops)) → have_rows rows (map (λ h. key.Neigh h.0.on h.0.ip) hops) ≡ true → hops_of plan hops ≡ o → AllIn AreMet (from_hops prefix o)
   hops_by prefix hops None is named at = tt
   hops_by prefix hops (Some group) is named at =
       route_met prefix group (hops_met hops group named at)

@@ -75,7 +75,7 @@ abbrev route_good : TypedRows
 route_good = good_rows_at plan route_sent 1
 
 abbrev route_row : Row
-route_row = row.Route (route.Hops (record { on = name.Ethernet 0; ip = one } ∷ []))
+route_row = row.Route (route.Hops ((record { on = name.Ethernet 0; ip = one }, 1) ∷ []))
 
 route_is_good : route_good lone_route ≡ Some route_row
 route_is_good = refl

@@ -1,6 +1,5 @@
 -- What a row stands for on the chip. The objects are those that SONiC's orchestration agent makes for a row of the table; own: an interface's address as an object of its own.
 use Rattle.std.specs.Prelude.{ℕ, List, [], ◌∷◌, Option, Some, None, option_map}
-use Rattle.std.specs.BTreeSet.{insert_key}
 use Rattle.swss_types.specs.declared.address.Ip.{Ip}
 use Rattle.swss_types.specs.declared.address.Prefix.{Prefix}
 use Rattle.swss_types.specs.declared.interface.IfName.{IfName}
@@ -16,10 +15,12 @@ use Rattle.table_schema.specs.Plan.{Ports, lanes_in_plan}
 use Rattle.sai_types.specs.declared.hop.Base.{Base}
 use Rattle.sai_types.specs.declared.hop.Base.TheVariants as base
 use Rattle.sai_types.specs.declared.hop.Hop.{Hop}
+use Rattle.sai_types.specs.declared.weight.WHop.{WHop}
 use Rattle.sai_types.specs.declared.thing.Goal.TheVariants as goal
 use Rattle.sai_types.specs.declared.thing.Thing.{Thing}
 use Rattle.sai_types.specs.declared.thing.Thing.TheVariants as thing
-use Rattle.sai_types.specs.Named.{first_lane, hop_cmp, both}
+use Rattle.sai_types.specs.Hop.{put_hop}
+use Rattle.sai_types.specs.Named.{first_lane, both}
 
 -- the first lane of a port of the plan
 abbrev pub lane_of : Ports → ℕ → Option ℕ
@@ -34,25 +35,29 @@ base_of plan (name.Loopback number) = None
 abbrev pub hop_of : Ports → RowHop → Option Hop
 hop_of plan hop = option_map (λ b. record { on = b; ip = hop.ip }) (base_of plan hop.on)
 
--- the hops of a row as hops of the chip, rising
-abbrev pub hops_of : Ports → List RowHop → Option (List Hop)
+-- a hop with its weight
+abbrev pub whop_of : Ports → RowHop × ℕ → Option WHop
+whop_of plan hop = option_map (λ h. record { hop = h; weight = hop.1 }) (hop_of plan hop.0)
+
+-- the hops of a row as hops of the chip with their weights, the hops rising
+abbrev pub hops_of : Ports → List (RowHop × ℕ) → Option (List WHop)
 hops_of plan [] = Some []
-hops_of plan (hop ∷ hops) = both (insert_key hop_cmp) (hops_of plan hops) (hop_of plan hop)
+hops_of plan (hop ∷ hops) = both put_hop (hops_of plan hops) (whop_of plan hop)
 
 -- a member for each hop
-abbrev pub members_of : List Hop → List Hop → List Thing
+abbrev pub members_of : List WHop → List WHop → List Thing
 members_of group [] = []
 members_of group (hop ∷ hops) = thing.GroupMember group hop ∷ members_of group hops
 
--- a route to one hop, or to a group of hops, which it brings along
-abbrev pub route_to : Prefix → List Hop → List Thing
+-- a route to one hop, whose weight says nothing, or to a group of hops, which it brings along
+abbrev pub route_to : Prefix → List WHop → List Thing
 route_to prefix [] = []
-route_to prefix (hop ∷ []) = thing.Route prefix (goal.Via hop) ∷ []
+route_to prefix (hop ∷ []) = thing.Route prefix (goal.Via hop.hop) ∷ []
 route_to prefix (hop ∷ next ∷ hops) =
     let group = hop ∷ next ∷ hops in
     thing.Route prefix (goal.Group group) ∷ thing.Group group ∷ members_of group group
 
-abbrev pub from_hops : Prefix → Option (List Hop) → List Thing
+abbrev pub from_hops : Prefix → Option (List WHop) → List Thing
 from_hops prefix None = []
 from_hops prefix (Some hops) = route_to prefix hops
 

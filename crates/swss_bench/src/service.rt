@@ -9,4 +9,4 @@ pub use full::time_full;
 pub use routes::{time_routes, time_slow};
 
 /// How many places a core's log has.
-const PLACES: u64 = 4_194_304;
+pub(crate) const PLACES: u64 = 4_194_304;

@@ -4,9 +4,9 @@
 //! cases KIND      the cases of a kind begin
 //! ```
 //!
-//! The kinds are `texts`, `chip` and `plans` (crate `part_cases`), `core` (crate `core_cases`), `rounds`, `scripts` and `examples`; what
-//! the lines of a kind mean stands at the head of its file. `examples` has no lines, and stands for the scripts of the folder
-//! that the program runs in. Lines that are empty or begin with `#` are skipped. What differs is printed by the name of its
+//! The kinds are `texts`, `chip` and `plans` (crate `part_cases`), `core` (crate `core_cases`), `rounds`, `scripts`,
+//! `statuses` and `examples`; what the lines of a kind mean stands at the head of its file. `examples` has no lines, and stands
+//! for the scripts of the folder that the program runs in. Lines that are empty or begin with `#` are skipped. What differs is printed by the name of its
 //! case, then how many cases of each kind passed and failed, and in the last line how many of all; the exit status is 1 where
 //! one failed, and where a kind has no case. With a word the program reads no cases, and runs the examples of that folder.
 #![tactic(auto)]
@@ -14,6 +14,7 @@
 mod examples;
 mod rounds;
 mod scripts;
+mod statuses;
 
 use anyhow::{Context, Result, bail, ensure};
 use part_cases::parted::{Part, parts};
@@ -77,6 +78,7 @@ fn run_kind<R: Files + AllocGlobal + Clone + Drop + Threads + Wait + Sync + Prin
         "core" => core_cases::run(rt, alloc, kind.lines)?,
         "rounds" => rounds::run(rt, alloc, kind.lines)?,
         "scripts" => scripts::run(rt, alloc, kind.lines)?,
+        "statuses" => statuses::run(rt, alloc, kind.lines)?,
         "examples" if kind.lines.is_empty() => examples::run(rt, alloc, ".")?,
         _ => bail!("no kind of cases, or a line that it has not"),
     };

@@ -1,5 +1,5 @@
 -- The line of a thing that stands on the chip. Own form; the words are those of the SAI object types.
-use Rattle.std.specs.Prelude.{ℕ, Bool, true, false, List, [], ◌∷◌, ◌++◌, flat_map, codes, Option, Some, None}
+use Rattle.std.specs.Prelude.{ℕ, ◌==◌, Bool, true, false, List, [], ◌∷◌, ◌++◌, flat_map, codes, Option, Some, None, if◌then◌else◌}
 use Rattle.std.specs.Fmt.{decimal}
 use Rattle.swss_types.specs.Interface.{if_name_text}
 use Rattle.swss_types.specs.Ip.{ip_text}
@@ -14,6 +14,7 @@ use Rattle.sai_types.specs.Named.{first_lane}
 use Rattle.sai_types.specs.declared.hop.Base.{Base}
 use Rattle.sai_types.specs.declared.hop.Base.TheVariants as base
 use Rattle.sai_types.specs.declared.hop.Hop.{Hop}
+use Rattle.sai_types.specs.declared.weight.WHop.{WHop}
 use Rattle.sai_types.specs.declared.thing.Goal.{Goal}
 use Rattle.sai_types.specs.declared.thing.Goal.TheVariants as goal
 use Rattle.sai_types.specs.declared.thing.PortThing.{PortThing}
@@ -33,10 +34,17 @@ base_text plan (base.Vlan vlan) = if_name_text (name.Vlan vlan)
 abbrev pub hop_text : Ports → Hop → List ℕ
 hop_text plan hop = ip_text hop.ip ++ 64 ∷ base_text plan hop.on
 
+-- a weight behind its hop, unless it is 1
+abbrev pub weight_text : ℕ → List ℕ
+weight_text weight = if weight == 1 then [] else 42 ∷ decimal weight
+
+abbrev pub whop_text : Ports → WHop → List ℕ
+whop_text plan whop = hop_text plan whop.hop ++ weight_text whop.weight
+
 -- hops joined by commas, or `-` for none
-abbrev pub hops_text : Ports → List Hop → List ℕ
+abbrev pub hops_text : Ports → List WHop → List ℕ
 hops_text plan [] = 45 ∷ []
-hops_text plan (hop ∷ hops) = hop_text plan hop ++ flat_map (λ h. 44 ∷ hop_text plan h) hops
+hops_text plan (hop ∷ hops) = whop_text plan hop ++ flat_map (λ h. 44 ∷ whop_text plan h) hops
 
 abbrev pub admin_text : Bool → List ℕ
 admin_text true = codes " admin up"
@@ -66,7 +74,7 @@ thing_text plan (thing.Own ip) = codes "OWN_ADDRESS " ++ ip_text ip
 thing_text plan (thing.Neighbor hop mac) = codes "NEIGHBOR " ++ base_text plan hop.on ++ 32 ∷ ip_text hop.ip ++ 32 ∷ mac_text mac
 thing_text plan (thing.NextHop hop) = codes "NEXT_HOP " ++ hop_text plan hop
 thing_text plan (thing.Group hops) = codes "GROUP " ++ hops_text plan hops
-thing_text plan (thing.GroupMember hops hop) = codes "GROUP_MEMBER " ++ hops_text plan hops ++ 32 ∷ hop_text plan hop
+thing_text plan (thing.GroupMember hops hop) = codes "GROUP_MEMBER " ++ hops_text plan hops ++ 32 ∷ whop_text plan hop
 thing_text plan (thing.Route prefix goal) = codes "ROUTE " ++ prefix_text prefix ++ goal_text plan goal
 
 -- the line of a thing

@@ -5,14 +5,14 @@ use Rattle.swss_types.specs.Mac.{mac_text}
 use Rattle.swss_types.specs.declared.address.Ip.{Ip}
 use Rattle.swss_types.specs.declared.address.Mac.{Mac}
 use Rattle.table_schema.specs.Plan.{Ports}
-use Rattle.sai_types.specs.declared.hop.Hop.{Hop}
+use Rattle.sai_types.specs.declared.weight.WHop.{WHop}
 use Rattle.sai_chip.specs.declared.forward.Forward.{Forward}
 use Rattle.sai_chip.specs.declared.forward.Forward.TheVariants as forward
-use Rattle.swss_report.specs.ChipLine.{base_text, hop_text}
+use Rattle.swss_report.specs.ChipLine.{base_text, whop_text}
 
--- a hop with its Ethernet address, behind a blank
-abbrev pub way_text : Ports → (Hop × Mac) → List ℕ
-way_text plan way = 32 ∷ hop_text plan way.0 ++ 47 ∷ mac_text way.1
+-- a hop with its weight and its Ethernet address, behind a blank
+abbrev pub way_text : Ports → (WHop × Mac) → List ℕ
+way_text plan way = 32 ∷ whop_text plan way.0 ++ 47 ∷ mac_text way.1
 
 abbrev pub answer_text : Ports → Forward → List ℕ
 answer_text plan forward.Cpu = codes " cpu"

@@ -1,10 +1,10 @@
 // The line of a thing that stands on the chip.
 ghost use Rattle.std.specs.Prelude.{◌≡◌, ◌∷◌, ◌++◌, flat_map, OnOk};
-ghost use Rattle.swss_report.specs.ChipLine.{base_text, chip_line, goal_text, hop_text, hops_text, membership_text, port_line, port_text, thing_text};
+ghost use Rattle.swss_report.specs.ChipLine.{base_text, chip_line, goal_text, hop_text, hops_text, membership_text, port_line, port_text, thing_text, weight_text, whop_text};
 ghost use Rattle.swss_types.specs.Tagging.{tagging_text};
 ghost use Rattle.table_schema.specs.Plan.{port_named};
 
-use sai_types::{Base, Goal, Hop, PortThing, Thing};
+use sai_types::{Base, Goal, Hop, PortThing, Thing, WHop, Weight};
 use swss_types::{IfName, Mac, OutOfMemory, Tagging, write_number};
 use table_schema::PortPlan;
 
@@ -50,11 +50,11 @@ pub(crate) fn write_thing(
             out.extend_from_slice(b"GROUP ")?;
             write_hops(out, plan, hops.items())?;
         }
-        Thing::GroupMember(hops, hop) => {
+        Thing::GroupMember(hops, whop) => {
             out.extend_from_slice(b"GROUP_MEMBER ")?;
             write_hops(out, plan, hops.items())?;
             out.push(b' ')?;
-            write_hop(out, plan, hop)?;
+            write_whop(out, plan, whop)?;
         }
         Thing::Route(prefix, goal) => {
             out.extend_from_slice(b"ROUTE ")?;
@@ -200,7 +200,7 @@ fn write_port_name(out: &mut Vec<u8>, plan: &PortPlan, lane: u16) -> Result<(), 
 }
 
 /// A hop: its address, `@` and its interface.
-pub(crate) fn write_hop(out: &mut Vec<u8>, plan: &PortPlan, hop: &Hop) -> Result<(), OutOfMemory>
+fn write_hop(out: &mut Vec<u8>, plan: &PortPlan, hop: &Hop) -> Result<(), OutOfMemory>
     ensures { OnOk result (out.new.items ≡ out.old.items ++ hop_text plan.now hop.now) }
 {
     hop.ip.write(out)?;
@@ -208,8 +208,28 @@ pub(crate) fn write_hop(out: &mut Vec<u8>, plan: &PortPlan, hop: &Hop) -> Result
     write_base(out, plan, &hop.on)
 }
 
-/// Hops joined by commas, or `-` for none.
-fn write_hops(out: &mut Vec<u8>, plan: &PortPlan, hops: &[Hop]) -> Result<(), OutOfMemory>
+/// A hop, and behind it its weight.
+pub(crate) fn write_whop(out: &mut Vec<u8>, plan: &PortPlan, whop: &WHop) -> Result<(), OutOfMemory>
+    ensures { OnOk result (out.new.items ≡ out.old.items ++ whop_text plan.now whop.now) }
+{
+    write_hop(out, plan, &whop.hop)?;
+    write_weight(out, whop.weight)
+}
+
+/// `*` and a weight, or nothing for 1.
+fn write_weight(out: &mut Vec<u8>, weight: Weight) -> Result<(), OutOfMemory>
+    ensures { OnOk result (out.new.items ≡ out.old.items ++ weight_text weight) }
+{
+    let number = weight.get();
+    if number == 1 {
+        return Ok(());
+    }
+    out.push(b'*')?;
+    write_number(out, u64::from(number))
+}
+
+/// Hops with their weights, joined by commas, or `-` for none.
+fn write_hops(out: &mut Vec<u8>, plan: &PortPlan, hops: &[WHop]) -> Result<(), OutOfMemory>
     ensures { OnOk result (out.new.items ≡ out.old.items ++ hops_text plan.now hops.now) }
 {
     match hops {
@@ -218,19 +238,19 @@ fn write_hops(out: &mut Vec<u8>, plan: &PortPlan, hops: &[Hop]) -> Result<(), Ou
             Ok(())
         }
         [first, others @ ..] => {
-            write_hop(out, plan, first)?;
+            write_whop(out, plan, first)?;
             write_behind(out, plan, others)
         }
     }
 }
 
 /// Each hop behind a comma.
-fn write_behind(out: &mut Vec<u8>, plan: &PortPlan, hops: &[Hop]) -> Result<(), OutOfMemory>
-    ensures { OnOk result (out.new.items ≡ out.old.items ++ flat_map (λ h. 44 ∷ hop_text plan.now h) hops.now) }
+fn write_behind(out: &mut Vec<u8>, plan: &PortPlan, hops: &[WHop]) -> Result<(), OutOfMemory>
+    ensures { OnOk result (out.new.items ≡ out.old.items ++ flat_map (λ h. 44 ∷ whop_text plan.now h) hops.now) }
 {
     for hop in hops {
         out.push(b',')?;
-        write_hop(out, plan, hop)?;
+        write_whop(out, plan, hop)?;
     }
     Ok(())
 }

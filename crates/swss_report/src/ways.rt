@@ -6,9 +6,9 @@ ghost use Rattle.sai_types.specs.Named.{named, those};
 ghost use Rattle.sai_chip.specs.Forward.{answer_of};
 ghost use Rattle.swss_report.specs.Ways.{answer_text, forward_text, way_text};
 
-use crate::chip_line::{write_base, write_hop};
+use crate::chip_line::{write_base, write_whop};
 use sai_chip::{Forward, SimChip};
-use sai_types::Hop;
+use sai_types::WHop;
 use std::alloc::Global;
 use swss_types::{Ip, Mac, OutOfMemory};
 use table_schema::PortPlan;
@@ -50,22 +50,22 @@ fn write_answer(out: &mut Vec<u8>, plan: &PortPlan, answer: &Forward) -> Result<
     Ok(())
 }
 
-/// Appends hops with their Ethernet addresses.
-fn write_ways(out: &mut Vec<u8>, plan: &PortPlan, ways: &[(Hop, Mac)]) -> Result<(), OutOfMemory>
+/// Appends hops with their weights and Ethernet addresses.
+fn write_ways(out: &mut Vec<u8>, plan: &PortPlan, ways: &[(WHop, Mac)]) -> Result<(), OutOfMemory>
     ensures { OnOk result (out.new.items ≡ out.old.items ++ flat_map (way_text plan.now) ways.now) }
 {
-    for (hop, mac) in ways {
-        write_way(out, plan, hop, mac)?;
+    for (whop, mac) in ways {
+        write_way(out, plan, whop, mac)?;
     }
     Ok(())
 }
 
-/// Appends a hop with its Ethernet address, behind a blank.
-fn write_way(out: &mut Vec<u8>, plan: &PortPlan, hop: &Hop, mac: &Mac) -> Result<(), OutOfMemory>
-    ensures { OnOk result (out.new.items ≡ out.old.items ++ way_text plan.now (hop.now, mac.now)) }
+/// Appends a hop with its weight and its Ethernet address, behind a blank.
+fn write_way(out: &mut Vec<u8>, plan: &PortPlan, whop: &WHop, mac: &Mac) -> Result<(), OutOfMemory>
+    ensures { OnOk result (out.new.items ≡ out.old.items ++ way_text plan.now (whop.now, mac.now)) }
 {
     out.push(b' ')?;
-    write_hop(out, plan, hop)?;
+    write_whop(out, plan, whop)?;
     out.push(b'/')?;
     mac.write(out)
 }

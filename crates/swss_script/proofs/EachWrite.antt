@@ -12,7 +12,7 @@ use Rattle.table_schema.specs.declared.write.Write.{Write}
 use Rattle.table_schema.specs.declared.write.Write.TheVariants as write
 use Rattle.swss_script.specs.Batch.{batch_of, key_in_word, texts_in, write_before, write_in, write_with, writes_of_items}
 use Rattle.swss_script.specs.Fields.{fields_of, set_fields}
-use Rattle.swss_script.specs.Line.{alone, del_line, del_with, forward_to, is_block, is_name, json_line, line_by, script_line_of, line_with, producer_line, set_line, set_with, show_line, show_of, shown}
+use Rattle.swss_script.specs.Line.{word_alone, del_line, del_with, forward_to, is_block, is_name, json_line, line_by, script_line_of, line_with, producer_line, set_line, set_with, show_line, show_of, shown}
 use Rattle.swss_script.specs.Lines.{block_of, is_end, line_text, lines_in}
 use Rattle.swss_script.specs.Script.{script_of}
 use Rattle.swss_script.specs.Sections.{Placed, line_writes, lines_writes, name_behind, placed, round_behind, script_writes, told, whole_line}
@@ -142,7 +142,7 @@ module _ (P : Write → Type 0) (set : (text : List ℕ) (fields : Pairs) → P 
   line-json [] text = tt
   line-json (word ∷ words) text = batch-of text
 
-  line-alone : (line : Line) (words : List (List ℕ)) → OfLine line → OfLine (alone line words)
+  line-alone : (line : Line) (words : List (List ℕ)) → OfLine line → OfLine (word_alone line words)
   line-alone line [] is = is
   line-alone line (word ∷ words) is = tt
 

@@ -102,9 +102,9 @@ json_line [] text = Block
 json_line (word ∷ words) text = Batch (batch_of text)
 
 -- a word that stands alone
-abbrev pub alone : Line → List (List ℕ) → Line
-alone line [] = line
-alone line (word ∷ words) = Other
+abbrev pub word_alone : Line → List (List ℕ) → Line
+word_alone line [] = line
+word_alone line (word ∷ words) = Other
 
 abbrev pub show_of : List ℕ → Option Show
 show_of word =
@@ -145,8 +145,8 @@ line_by first others behind =
     else if bytes_eq first (codes "set") then set_line others
     else if bytes_eq first (codes "del") then del_line others
     else if bytes_eq first (codes "json") then json_line others behind
-    else if bytes_eq first (codes "restart") then alone Restart others
-    else if bytes_eq first (codes "settle") then alone Settle others
+    else if bytes_eq first (codes "restart") then word_alone Restart others
+    else if bytes_eq first (codes "settle") then word_alone Settle others
     else if bytes_eq first (codes "show") then show_line others
     else Other
 

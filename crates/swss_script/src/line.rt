@@ -1,7 +1,7 @@
 // Lines of a script, by their words.
 ghost use Rattle.std.specs.Prelude.{◌≡◌, ◌==◌, ◌++◌, ◌∷◌, false, codes, IfOk, option_map};
 ghost use Rattle.std.specs.List.{starts_with};
-ghost use Rattle.swss_script.specs.Line.{alone, chip_head, del_line, fail_line, forward_to, image_line, is_after, is_block, is_name, json_line, kind_of_word, line_by, script_line_of, port_head, producer_line, set_line, show_line, show_of, shown};
+ghost use Rattle.swss_script.specs.Line.{word_alone, chip_head, del_line, fail_line, forward_to, image_line, is_after, is_block, is_name, json_line, kind_of_word, line_by, script_line_of, port_head, producer_line, set_line, show_line, show_of, shown};
 ghost use Rattle.swss_script.specs.Words.{words_in};
 
 use crate::batch::{key_in_word, read_batch};
@@ -92,8 +92,8 @@ fn read_words(alloc: Global, first: &str, behind: &str) -> Result<Line, OutOfMem
         "set" => read_set(alloc, behind),
         "del" => read_del(alloc, behind),
         "json" => read_json(alloc, behind),
-        "restart" => Ok(alone(Line::Restart, behind)),
-        "settle" => Ok(alone(Line::Settle, behind)),
+        "restart" => Ok(word_alone(Line::Restart, behind)),
+        "settle" => Ok(word_alone(Line::Settle, behind)),
         "show" => Ok(read_show(behind)),
         _ => Ok(Line::Other),
     }
@@ -246,8 +246,8 @@ fn read_json(alloc: Global, text: &str) -> Result<Line, OutOfMemory>
 }
 
 /// A line whose first word stands alone.
-fn alone(line: Line, text: &str) -> Line
-    ensures { result ≡ alone line (words_in text.now) }
+fn word_alone(line: Line, text: &str) -> Line
+    ensures { result ≡ word_alone line (words_in text.now) }
 {
     match next_word(text) {
         Some(_) => Line::Other,

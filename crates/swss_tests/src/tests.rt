@@ -12,7 +12,6 @@ mod queue;
 mod retry;
 mod rounds;
 mod rows;
-mod run;
 mod service;
 mod to_sync;
 mod values;

@@ -1,6 +1,5 @@
 -- what a row names are proper keys
 use Rattle.std.proofs.Common.{◌≡◌, ℕ, ◌==◌, ◌&&◌, Bool, true, false, cond, leb, ltb, List, [], ◌∷◌, length, map, Option, None, Some, Result, Ok, Err, codes, refl, subst}
-use Rattle.std.specs.BTreeSet.{insert_key}
 use Rattle.std.specs.List.{AllByRecursion}
 use Rattle.swss_types.specs.Address.{IsProperIp}
 use Rattle.swss_types.specs.Interface.{if_name_of, IsProperIfName}
@@ -12,7 +11,7 @@ use Rattle.swss_types.specs.declared.interface.IfName.TheVariants as name
 use Rattle.swss_types.proofs.Proper.{IsProperIp-ip_of}
 use Rattle.table_schema.specs.Broken.{bad, and_then}
 use Rattle.table_schema.specs.Fields.{Pairs, value_of}
-use Rattle.table_schema.specs.Hop.{row_hop_cmp}
+use Rattle.table_schema.specs.Hop.{put_row_hop}
 use Rattle.table_schema.specs.KeyText.{on_switch}
 use Rattle.table_schema.specs.Names.{base_names, names_of, names_of_route, route_names}
 use Rattle.table_schema.specs.Plan.{Ports}
@@ -28,7 +27,7 @@ use Rattle.table_schema.specs.declared.row.Row.TheVariants as row
 use Rattle.table_schema.specs.declared.row.RouteRow.{RouteRow}
 use Rattle.table_schema.specs.declared.row.RouteRow.TheVariants as route
 use Rattle.table_schema.specs.declared.row_hop.RowHop.{RowHop}
-use Rattle.table_schema.proofs.Hops.{AllByRecursion-insert_key}
+use Rattle.table_schema.proofs.Hops.{AllByRecursion-put_row_hop}
 use Rattle.table_schema.proofs.KeyTexts.{IsTyped, IsProperKey-typed}
 use Rattle.table_schema.proofs.ProperKeys.{proper_on_switch}
 
@@ -56,6 +55,10 @@ ok_is x y h = cc
 abbrev pub IsTypedHop : RowHop → Type 0
 IsTypedHop hop = IsTyped (key.Neigh hop.on hop.ip)
 
+-- and so is each of these
+abbrev pub AreTypedHops : List (RowHop × ℕ) → Type 0
+AreTypedHops hops = AllByRecursion (λ h. IsTypedHop h.0) hops
+
 typed_hop_at : (several : Bool) (on : IfName) (o : Option Ip) (hop : RowHop) → IsProperIfName on × (on_switch (Some on) ≡ Some on) → ((ip : Ip) → o ≡ Some ip → IsProperIp ip) → hop_at several on o ≡ Ok hop → IsTypedHop hop
 typed_hop_at several on None hop proper h e = cc
 typed_hop_at several on (Some ip) hop proper h e =
@@ -70,14 +73,14 @@ typed_hop_on several (Some on) a hop proper h e = typed_hop_at several on a hop 
 typed_hop : (several : Bool) (ip on : List ℕ) (hop : RowHop) → hop_of_texts several ip on ≡ Ok hop → IsTypedHop hop
 typed_hop several ip on hop e = typed_hop_on several (on_switch (if_name_of on)) (ip_of ip) hop (proper_on_switch on) (IsProperIp-ip_of ip) e
 
-typed_hops : (several : Bool) (hops : List RowHop) (ips names : List (List ℕ)) (all : List RowHop) → AllByRecursion IsTypedHop hops → hops_with several hops ips names ≡ Ok all → AllByRecursion IsTypedHop all
-typed_hops several hops [] names all h e = let is : hops ≡ all = cc in subst (AllByRecursion IsTypedHop) is h
-typed_hops several hops (ip ∷ ips) [] all h e = let is : hops ≡ all = cc in subst (AllByRecursion IsTypedHop) is h
+typed_hops : (several : Bool) (hops : List (RowHop × ℕ)) (ips names : List (List ℕ)) (all : List (RowHop × ℕ)) → AreTypedHops hops → hops_with several hops ips names ≡ Ok all → AreTypedHops all
+typed_hops several hops [] names all h e = let is : hops ≡ all = cc in subst AreTypedHops is h
+typed_hops several hops (ip ∷ ips) [] all h e = let is : hops ≡ all = cc in subst AreTypedHops is h
 typed_hops several hops (ip ∷ ips) (on ∷ names) all h e =
-    let parts = both_hold (hop_of_texts several ip on) (λ hop. hops_with several (insert_key row_hop_cmp hops hop) ips names) all e in
-    typed_hops several (insert_key row_hop_cmp hops parts.0) ips names all (AllByRecursion-insert_key IsTypedHop hops parts.0 (typed_hop several ip on parts.0 parts.1) h) parts.2
+    let parts = both_hold (hop_of_texts several ip on) (λ hop. hops_with several (put_row_hop hops hop 1) ips names) all e in
+    typed_hops several (put_row_hop hops parts.0 1) ips names all (AllByRecursion-put_row_hop (λ h. IsTypedHop h.0) hops parts.0 1 (typed_hop several ip on parts.0 parts.1) (λ h typed. typed) h) parts.2
 
-typed_hops_of : (ips names : List (List ℕ)) (all : List RowHop) → hops_of_texts ips names ≡ Ok all → AllByRecursion IsTypedHop all
+typed_hops_of : (ips names : List (List ℕ)) (all : List (RowHop × ℕ)) → hops_of_texts ips names ≡ Ok all → AreTypedHops all
 typed_hops_of ips names all e =
     let same = first_chosen (length ips == length names) (cond (leb (length ips) 128) (hops_with (ltb 1 (length ips)) [] ips names) (bad TooManyHops 7)) (record { why = CountsDiffer; field = 8 }) all e in
     let few = first_chosen (leb (length ips) 128) (hops_with (ltb 1 (length ips)) [] ips names) (record { why = TooManyHops; field = 7 }) all same in
@@ -87,11 +90,11 @@ typed_hops_of ips names all e =
 abbrev pub IsTypedTarget : RouteRow → Type 0
 IsTypedTarget route.Drop = Unit {0}
 IsTypedTarget (route.Direct on) = IsProperIfName on
-IsTypedTarget (route.Hops hops) = AllByRecursion IsTypedHop hops
+IsTypedTarget (route.Hops hops) = AreTypedHops hops
 
-typed_target : (hops : List RowHop) → AllByRecursion IsTypedHop hops → IsTypedTarget (target_of_hops hops)
+typed_target : (hops : List (RowHop × ℕ)) → AreTypedHops hops → IsTypedTarget (target_of_hops hops)
 typed_target [] h = h
-typed_target (hop ∷ []) h = elim (is_zero hop.ip) as (λ b. IsTypedTarget (cond b (route.Direct hop.on) (route.Hops (hop ∷ [])))) [ true ↦ h.0.0.0 | false ↦ h ]
+typed_target (hop ∷ []) h = elim (is_zero hop.0.ip) as (λ b. IsTypedTarget (cond b (route.Direct hop.0.on) (route.Hops (hop ∷ [])))) [ true ↦ h.0.0.0 | false ↦ h ]
 typed_target (hop ∷ other ∷ others) h = h
 
 typed_forwarding : (fields : Pairs) (target : RouteRow) → route_hops_of fields ≡ Ok target → IsTypedTarget target
@@ -109,9 +112,9 @@ typed_route_target false fields target e = typed_forwarding fields target e
 typed_route : (fields : Pairs) (target : RouteRow) → route_row_of fields ≡ Ok target → IsTypedTarget target
 typed_route fields target e = let drops = both_hold (drops_of fields) (λ d. route_target d fields) target e in typed_route_target drops.0 fields target drops.2
 
-proper_hops : (hops : List RowHop) → AllByRecursion IsTypedHop hops → AreProperKeys (map (λ h. key.Neigh h.on h.ip) hops)
+proper_hops : (hops : List (RowHop × ℕ)) → AreTypedHops hops → AreProperKeys (map (λ h. key.Neigh h.0.on h.0.ip) hops)
 proper_hops [] h = tt
-proper_hops (hop ∷ hops) h = (IsProperKey-typed (key.Neigh hop.on hop.ip) h.0, proper_hops hops h.1)
+proper_hops (hop ∷ hops) h = (IsProperKey-typed (key.Neigh hop.0.on hop.0.ip) h.0, proper_hops hops h.1)
 
 proper_targets : (target : RouteRow) → IsTypedTarget target → AreProperKeys (route_names target)
 proper_targets route.Drop h = tt

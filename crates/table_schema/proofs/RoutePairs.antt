@@ -1,11 +1,10 @@
 -- the hops at the pairs of two lists that are read part by part
 use Rattle.std.proofs.Common.{◌≡◌, ℕ, ◌+◌, ◌≤◌, ◌==◌, Bool, List, ◌∷◌, [], length, Option, None, Some, Ok, Err, Bor, refl, sym, ap, ◌∙◌, arith}
-use Rattle.std.specs.BTreeSet.{insert_key}
 use Rattle.std.proofs.lemmas.Bool.Decides.{nat_tests}
 use Rattle.std.proofs.lemmas.List.Splits.{length-slice_split}
 use Rattle.swss_types.specs.Parts.{IsCutInto, parts_at}
 use Rattle.table_schema.specs.Broken.{and_then}
-use Rattle.table_schema.specs.Hop.{row_hop_cmp}
+use Rattle.table_schema.specs.Hop.{put_row_hop}
 use Rattle.table_schema.specs.RouteRules.{counts_of, hop_of_texts, hops_with}
 use Rattle.table_schema.specs.declared.row.BadRow.{BadRow}
 use Rattle.table_schema.specs.declared.row_hop.RowHop.{RowHop}
@@ -34,12 +33,12 @@ count_more m count left rest text part is cut all =
     omega (arith, one)
 
 -- the hop at the first pair, and those at the others
-module _ (several : Bool) (hops : List RowHop) (ips ons ips_left ons_left : Option (Bor (List ℕ))) (addresses names : Bor (List ℕ)) (ip on : List ℕ) (ips_is : ips ≡ Some addresses) (ons_is : ons ≡ Some names) (ip_cut : IsCutInto 44 addresses.now ip ips_left) (on_cut : IsCutInto 44 names.now on ons_left) where
-  at_first : hops_with several hops (parts_left ips) (parts_left ons) ≡ and_then (hop_of_texts several ip on) (λ hop. hops_with several (insert_key row_hop_cmp hops hop) (parts_left ips_left) (parts_left ons_left))
+module _ (several : Bool) (hops : List (RowHop × ℕ)) (ips ons ips_left ons_left : Option (Bor (List ℕ))) (addresses names : Bor (List ℕ)) (ip on : List ℕ) (ips_is : ips ≡ Some addresses) (ons_is : ons ≡ Some names) (ip_cut : IsCutInto 44 addresses.now ip ips_left) (on_cut : IsCutInto 44 names.now on ons_left) where
+  at_first : hops_with several hops (parts_left ips) (parts_left ons) ≡ and_then (hop_of_texts several ip on) (λ hop. hops_with several (put_row_hop hops hop 1) (parts_left ips_left) (parts_left ons_left))
   at_first = rw (parts_cut ips ips_left addresses ip ips_is ip_cut, parts_cut ons ons_left names on ons_is on_cut) refl
 
-  pub hop_put : (new : List RowHop) (hop : RowHop) → hop_of_texts several ip on ≡ Ok hop → new ≡ insert_key row_hop_cmp hops hop → hops_with several new (parts_left ips_left) (parts_left ons_left) ≡ hops_with several hops (parts_left ips) (parts_left ons)
-  hop_put new hop reads put = sym (at_first ∙ ap (λ r. and_then r (λ hop. hops_with several (insert_key row_hop_cmp hops hop) (parts_left ips_left) (parts_left ons_left))) reads ∙ ap (λ hs. hops_with several hs (parts_left ips_left) (parts_left ons_left)) (sym put))
+  pub hop_put : (new : List (RowHop × ℕ)) (hop : RowHop) → hop_of_texts several ip on ≡ Ok hop → new ≡ put_row_hop hops hop 1 → hops_with several new (parts_left ips_left) (parts_left ons_left) ≡ hops_with several hops (parts_left ips) (parts_left ons)
+  hop_put new hop reads put = sym (at_first ∙ ap (λ r. and_then r (λ hop. hops_with several (put_row_hop hops hop 1) (parts_left ips_left) (parts_left ons_left))) reads ∙ ap (λ hs. hops_with several hs (parts_left ips_left) (parts_left ons_left)) (sym put))
 
   pub hop_broken : (broken : BadRow) → hop_of_texts several ip on ≡ Err broken → hops_with several hops (parts_left ips) (parts_left ons) ≡ Err broken
-  hop_broken broken reads = at_first ∙ ap (λ r. and_then r (λ hop. hops_with several (insert_key row_hop_cmp hops hop) (parts_left ips_left) (parts_left ons_left))) reads
+  hop_broken broken reads = at_first ∙ ap (λ r. and_then r (λ hop. hops_with several (put_row_hop hops hop 1) (parts_left ips_left) (parts_left ons_left))) reads

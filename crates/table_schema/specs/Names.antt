@@ -19,7 +19,7 @@ base_names (name.Loopback number) = []
 abbrev pub route_names : RouteRow → List Key
 route_names route.Drop = []
 route_names (route.Direct on) = key.Intf on ∷ []
-route_names (route.Hops hops) = map (λ h. key.Neigh h.on h.ip) hops
+route_names (route.Hops hops) = map (λ h. key.Neigh h.0.on h.0.ip) hops
 
 abbrev pub names_of_route : Row → List Key
 names_of_route (row.Route target) = route_names target

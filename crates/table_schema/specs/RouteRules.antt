@@ -1,6 +1,5 @@
 -- The rules by which a route's row reads (SWSS schema; the order of the rules is own).
 use Rattle.std.specs.Prelude.{ℕ, ◌==◌, ◌&&◌, ◌||◌, nat_lt, nat_le, Bool, true, false, List, [], ◌∷◌, length, Option, Some, None, Result, Ok, codes, bytes_eq, if◌then◌else◌}
-use Rattle.std.specs.BTreeSet.{insert_key}
 use Rattle.swss_types.specs.Interface.{if_name_of}
 use Rattle.swss_types.specs.Ip.{ip_of}
 use Rattle.swss_types.specs.Parts.{parts_at}
@@ -8,7 +7,7 @@ use Rattle.swss_types.specs.declared.address.Ip.{Ip}
 use Rattle.swss_types.specs.declared.interface.IfName.{IfName}
 use Rattle.table_schema.specs.Broken.{bad, and_then}
 use Rattle.table_schema.specs.Fields.{Pairs, value_of}
-use Rattle.table_schema.specs.Hop.{row_hop_cmp}
+use Rattle.table_schema.specs.Hop.{put_row_hop}
 use Rattle.table_schema.specs.KeyText.{on_switch}
 use Rattle.table_schema.specs.declared.row.BadRow.{BadRow}
 use Rattle.table_schema.specs.declared.row.BadWhy.TheVariants.{Unsupported, MissingField, BadValue, CountsDiffer, TooManyHops}
@@ -71,14 +70,14 @@ hop_or_why several (Some on) ip = hop_at several on ip
 abbrev pub hop_of_texts : Bool → List ℕ → List ℕ → Result RowHop BadRow
 hop_of_texts several ip on = hop_or_why several (on_switch (if_name_of on)) (ip_of ip)
 
--- hops put among others, each once and rising
-abbrev pub hops_with : Bool → List RowHop → List (List ℕ) → List (List ℕ) → Result (List RowHop) BadRow
+-- hops put among others, each once and rising; each has the weight 1, since no weight is read yet
+abbrev pub hops_with : Bool → List (RowHop × ℕ) → List (List ℕ) → List (List ℕ) → Result (List (RowHop × ℕ)) BadRow
 hops_with several hops [] names = Ok hops
 hops_with several hops (ip ∷ ips) [] = Ok hops
-hops_with several hops (ip ∷ ips) (on ∷ names) = and_then (hop_of_texts several ip on) (λ hop. hops_with several (insert_key row_hop_cmp hops hop) ips names)
+hops_with several hops (ip ∷ ips) (on ∷ names) = and_then (hop_of_texts several ip on) (λ hop. hops_with several (put_row_hop hops hop 1) ips names)
 
 -- as many addresses as names, no more than a route may have, and a hop at each pair
-abbrev pub hops_of_texts : List (List ℕ) → List (List ℕ) → Result (List RowHop) BadRow
+abbrev pub hops_of_texts : List (List ℕ) → List (List ℕ) → Result (List (RowHop × ℕ)) BadRow
 hops_of_texts ips names =
     if length ips == length names
     then (if nat_le (length ips) MOST_HOPS then hops_with (nat_lt 1 (length ips)) [] ips names else bad TooManyHops 7)
@@ -92,9 +91,9 @@ counts_of ips names =
     else bad CountsDiffer 8
 
 -- one hop with a zero address is the interface itself
-abbrev pub target_of_hops : List RowHop → RouteRow
+abbrev pub target_of_hops : List (RowHop × ℕ) → RouteRow
 target_of_hops [] = route.Hops []
-target_of_hops (hop ∷ []) = if is_zero hop.ip then route.Direct hop.on else route.Hops (hop ∷ [])
+target_of_hops (hop ∷ []) = if is_zero hop.0.ip then route.Direct hop.0.on else route.Hops (hop ∷ [])
 target_of_hops (hop ∷ other ∷ others) = route.Hops (hop ∷ other ∷ others)
 
 -- the hops that a list of addresses and a list of names write

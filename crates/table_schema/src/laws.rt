@@ -1,11 +1,10 @@
 // Laws of keys, rows and plans. The functions do nothing; their contracts are the laws.
-ghost use Rattle.std.specs.Prelude.{◌≡◌, ◌++◌, [], ◌∷◌, List, ℕ, Ok, Contains};
-ghost use Rattle.std.specs.BTreeSet.{insert_key};
+ghost use Rattle.std.specs.Prelude.{◌≡◌, ◌≤◌, ◌++◌, [], ◌∷◌, List, ℕ, Ok, Contains};
 ghost use Rattle.std.specs.Cmp.{IsTotalOrder};
 ghost use Rattle.std.specs.Str.{IsUtf8};
 ghost use Rattle.std.proofs.lemmas.Map.Lookups.{CmpEqualImpliesEq};
 ghost use Rattle.table_schema.specs.Fields.{HasRisingKeys, HasRisingNames, Pairs, merged, value_of};
-ghost use Rattle.table_schema.specs.Hop.{AreRisingRowHops, row_hop_cmp, row_hop_order};
+ghost use Rattle.table_schema.specs.Hop.{AreRisingRowHops, put_row_hop, row_hop_cmp, row_hop_order};
 ghost use Rattle.table_schema.specs.Key.{key_cmp};
 ghost use Rattle.table_schema.specs.KeyText.{key_of, key_text};
 ghost use Rattle.table_schema.specs.LastValue.{last_value};
@@ -49,10 +48,10 @@ pub fn last_values_stay()
     ensures last { (pairs : Pairs) (name : List ℕ) → value_of name (merged [] pairs) ≡ last_value name pairs }
 {}
 
-/// A hop more keeps hops rising, and one that is there changes nothing.
+/// A hop more keeps hops rising, and one that is there changes nothing, unless its new weight is greater.
 pub fn hops_collapse()
-    ensures rising { (hops : List RowHop) (hop : RowHop) → AreRisingRowHops hops → AreRisingRowHops (insert_key row_hop_cmp hops hop) }
-    ensures once { (hops : List RowHop) (hop : RowHop) → AreRisingRowHops hops → Contains hops hop → insert_key row_hop_cmp hops hop ≡ hops }
+    ensures rising { (hops : List (RowHop × ℕ)) (hop : RowHop) (weight : ℕ) → AreRisingRowHops hops → AreRisingRowHops (put_row_hop hops hop weight) }
+    ensures once { (hops : List (RowHop × ℕ)) (hop : RowHop) (weight there : ℕ) → AreRisingRowHops hops → Contains hops (hop, there) → weight ≤ there → put_row_hop hops hop weight ≡ hops }
 {}
 
 /// The rows of writes rise by their keys, and one write more is applied to the rows of the others.

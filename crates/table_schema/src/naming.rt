@@ -52,7 +52,7 @@ fn first_route_name(target: &RouteRow) -> Option<Key>
         RouteRow::Direct(on) => Some(Key::Intf(*on)),
         RouteRow::Hops(hops) => match hops.items() {
             [] => None,
-            [first, ..] => Some(Key::Neigh(first.on, first.ip)),
+            [(first, _), ..] => Some(Key::Neigh(first.on, first.ip)),
         },
     }
 }
@@ -80,11 +80,11 @@ fn route_names(alloc: Global, target: &RouteRow) -> Result<Vec<Key>, OutOfMemory
 }
 
 /// The neighbours that are hops.
-fn hop_names(alloc: Global, hops: &[RowHop]) -> Result<Vec<Key>, OutOfMemory>
-    ensures { IfOk result (λ names. names.items ≡ map (λ h. Key.Neigh h.on h.ip) hops.now) }
+fn hop_names(alloc: Global, hops: &[(RowHop, u8)]) -> Result<Vec<Key>, OutOfMemory>
+    ensures { IfOk result (λ names. names.items ≡ map (λ h. Key.Neigh h.0.on h.0.ip) hops.now) }
 {
     let mut names = Vec::with_capacity(alloc, hops.len())?;
-    for hop in hops {
+    for (hop, _) in hops {
         names.push(Key::Neigh(hop.on, hop.ip))?;
     }
     Ok(names)

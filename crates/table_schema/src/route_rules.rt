@@ -233,7 +233,7 @@ fn put_pairs(
         let (address, addresses_behind) = cut_at(address_list, b',');
         let (name, names_behind) = cut_at(name_list, b',');
         match read_hop(several, address, name) {
-            Ok(hop) => hops.put(hop)?,
+            Ok(hop) => hops.put(hop, 1)?,
             Err(broken) => return Ok(Err(broken)),
         }
         addresses_left = addresses_behind;
@@ -266,7 +266,7 @@ fn target_of(hops: RowHops) -> RouteRow
     ensures { result ≡ target_of_hops hops }
 {
     match hops.items() {
-        [hop] if is_zero(&hop.ip) => RouteRow::Direct(hop.on),
+        [(hop, _)] if is_zero(&hop.ip) => RouteRow::Direct(hop.on),
         _ => RouteRow::Hops(hops),
     }
 }

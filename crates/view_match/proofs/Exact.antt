@@ -7,7 +7,7 @@ use Rattle.sai_types.specs.contracts.hop.BaseOrd.TheImpl as base_ord
 use Rattle.sai_types.specs.contracts.hop.BaseOrd.TheImpl.Laws as ordered_base
 use Rattle.swss_types.proofs.Tied.{then_first, then_last}
 use Rattle.swss_types.proofs.AddressOrders.{ip_exact, prefix_exact}
-use Rattle.sai_types.proofs.Rising.{base-exact, hop_exact, hops_exact}
+use Rattle.sai_types.proofs.Rising.{base-exact, hop_exact, hops_exact, whop_exact}
 use Rattle.view_match.specs.contracts.key.NaturalKeyOrd.TheImpl.Laws as ordered_key
 use Rattle.view_match.specs.declared.key.NaturalKey.TheVariants as key
 use Rattle.view_match.specs.Keys.{natural_key_cmp}
@@ -25,6 +25,6 @@ natural_key_exact (key.Own a) (key.Own b) h = ap key.Own (ip_exact a b h)
 natural_key_exact (key.Neighbor a) (key.Neighbor b) h = ap key.Neighbor (hop_exact a b h)
 natural_key_exact (key.NextHop a) (key.NextHop b) h = ap key.NextHop (hop_exact a b h)
 natural_key_exact (key.Group a) (key.Group b) h = ap key.Group (hops_exact a b h)
-natural_key_exact (key.GroupMember v m) (key.GroupMember w n) h = ap₂ key.GroupMember (hops_exact v w (then_first _ _ h)) (hop_exact m n (then_last _ _ h))
+natural_key_exact (key.GroupMember v m) (key.GroupMember w n) h = ap₂ key.GroupMember (hops_exact v w (then_first _ _ h)) (whop_exact m n (then_last _ _ h))
 natural_key_exact (key.Route a) (key.Route b) h = ap key.Route (prefix_exact a b h)
 natural_key_exact x y h = absurd (false≢true (ordered_key.matches_eq-law x y ∙ ap is_eq h))

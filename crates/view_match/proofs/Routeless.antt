@@ -4,7 +4,7 @@ use Rattle.std.specs.BTreeMap.{is_at}
 use Rattle.std.proofs.lemmas.List.{drop_more}
 use Rattle.sai_types.specs.declared.ids.Rid.{Rid}
 use Rattle.sai_types.specs.declared.ids.Vid.{Vid}
-use Rattle.sai_types.specs.declared.hop.Hop.{Hop}
+use Rattle.sai_types.specs.declared.weight.WHop.{WHop}
 use Rattle.sai_types.specs.declared.body.Body.{Body}
 use Rattle.sai_types.specs.declared.body.Body.TheVariants as body
 use Rattle.sai_types.specs.declared.body.Entry.{Entry}
@@ -33,7 +33,7 @@ apart r (entry.Route prefix) h = refl
 apart r e h = absurd cc
 
 -- what has a target is no member of a group
-no_member : (objects : Objects) (g : Rid) (b : Body Vid) (others : Option (List Hop)) → has_target b ≡ true → with_member objects g (body_renamed rid_of b) others ≡ others
+no_member : (objects : Objects) (g : Rid) (b : Body Vid) (others : Option (List WHop)) → has_target b ≡ true → with_member objects g (body_renamed rid_of b) others ≡ others
 no_member objects g (body.Route prefix to) others h = refl
 no_member objects g b others h = absurd cc
 
@@ -49,7 +49,7 @@ found-routeless r [] = refl
 found-routeless r (o ∷ os) = found_by r o (is_route o) refl (without_routes os) os (found-routeless r os)
 
 module _ (objects : Objects) (g : Rid) where
-  abbrev hops : List (Object Vid) → Option (List Hop)
+  abbrev hops : List (Object Vid) → Option (List WHop)
   hops os = hops_among objects g (entries_of (objects_as os))
 
   hops_by : (o : Object Vid) (t : Bool) → is_route o ≡ t → (some all : List (Object Vid)) → hops some ≡ hops all → hops (cond t some (o ∷ some)) ≡ hops (o ∷ all)

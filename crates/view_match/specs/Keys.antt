@@ -1,4 +1,4 @@
--- Natural keys: things without what can be set on them. Own; they are those of the OCP SAI headers' key attributes, and a group's the hops of its members.
+-- Natural keys: things without what can be set on them. Own; they are those of the OCP SAI headers' key attributes, and a group's the hops of its members with their weights.
 use Rattle.std.specs.Prelude.{List, Option, map, option_map}
 use Rattle.std.specs.declared.cmp.Ordering.{Ordering}
 use Rattle.sai_types.specs.declared.ids.Rid.{Rid}

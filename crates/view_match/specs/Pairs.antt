@@ -21,7 +21,7 @@ use Rattle.view_match.specs.Listed.{object_as, objects_as}
 -- the number of the group that an object is or is a member of: where several groups have the same hops, it tells which of them stays
 abbrev pub group_number : (Entry Rid × Body Rid) → ℕ
 group_number (entry.Oid g, body.Group) = g.0
-group_number (e, body.GroupMember g n) = g.0
+group_number (e, body.GroupMember g n weight) = g.0
 group_number _ = 0
 
 -- the same, where there is an object

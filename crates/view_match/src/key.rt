@@ -8,7 +8,7 @@ ghost use Rattle.view_match.specs.Listed.{object_as};
 
 use crate::listed::{object_of, others_listed, to_of};
 use chip_names::Names;
-use sai_types::{Base, Body, Hop, Hops, Object, Rid, Thing, Vid};
+use sai_types::{Base, Body, Hop, Hops, Object, Rid, Thing, Vid, WHop};
 use std::alloc::Global;
 use std::mem::drop;
 use swss_types::{Ip, Lanes, OutOfMemory, Prefix};
@@ -33,10 +33,10 @@ pub enum NaturalKey {
     Neighbor(Hop),
     /// A next hop, by its interface and address.
     NextHop(Hop),
-    /// A group, by the hops of its members.
+    /// A group, by the hops of its members with their weights.
     Group(Hops),
     /// A hop in a group.
-    GroupMember(Hops, Hop),
+    GroupMember(Hops, WHop),
     /// A route, by its prefix.
     Route(Prefix),
 }

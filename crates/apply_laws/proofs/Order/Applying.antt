@@ -17,7 +17,6 @@ use Rattle.sai_types.specs.Alike.{IsIn}
 use Rattle.sai_types.specs.Made.{made_after_all}
 use Rattle.sai_types.specs.Named.{first_lane, named, those, thing_of}
 use Rattle.sai_types.specs.Names as name
-use Rattle.sai_types.specs.Names.{ShareLane, name_of}
 use Rattle.sai_types.specs.Objects.{Objects}
 use Rattle.sai_types.specs.Refusal.{capacity_of}
 use Rattle.chip_names.specs.Naming.{entries_of}
@@ -30,6 +29,7 @@ use Rattle.plan_laws.specs.Calls.{PlansChanges, resolve, viewed}
 use Rattle.plan_laws.specs.Old.{old_layout, old_things, tag_of}
 use Rattle.plan_laws.specs.Plans.{PlanChange}
 use Rattle.plan_laws.specs.Views.{HasRoomForPlan, LanesApart, made_name, made_names}
+use Rattle.plan_laws.proofs.Apart.{PortsApart, lanes-old}
 use Rattle.plan_laws.proofs.Applied.{plan-comes}
 use Rattle.plan_laws.proofs.Cold.{cold-comes}
 use Rattle.plan_laws.proofs.Starting.{old-seen}
@@ -81,18 +81,17 @@ module _ {capacities : List ℕ} {made : ℕ} {old : List (Object Rid)} {new : L
 
   -- ---- ports
 
-  ports_apart : (t u : Thing) → IsIn t N → IsIn u (old_things O N) → ShareLane t u → name_of t ≡ name_of u
-  ports_apart (thing.Port p) (thing.Port q) i j share =
+  ports_apart : PortsApart N (old_things O N)
+  ports_apart p q i j share =
       let s = old-seen x.chip N (thing.Port q) j in
       let w = old-place old x.chip x.view s.0 (thing.Port q) s.1 in
       let of = subst (λ z. IsBody (Has (old_layout O N)) z w.body) w.thing w.was.of in
       let shown : thing_of O (w.entry, w.body) ≡ Some (thing.Port q) = ap (λ z. thing_of O (w.entry, z)) of.body_is in
       let seen : IsIn (thing.Port q) (chip_things O) = in_those (thing.Port q) (named O) (subst (λ z. IsIn z (named O)) shown (thing_in O O w.entry w.body (place-in O w.place (w.entry, w.body) w.was.at))) in
       ap (λ ls. name.Port (first_lane ls)) (x.lanes.same p q i seen (inr share))
-  ports_apart _ _ i j share = absurd share
 
   lanes_apart : LanesApart (old_things O N) N
-  lanes_apart = record { apart = λ t u i j share. elim j [ inl was ↦ ports_apart t u i was share | inr now ↦ x.view.lanes.apart t u i (inr now) share ] }
+  lanes_apart = lanes-old x.view.view x.chip ports_apart (λ p q i j share. x.view.lanes.apart (thing.Port p) (thing.Port q) i (inr j) share)
 
   -- ---- a hitless plan
 

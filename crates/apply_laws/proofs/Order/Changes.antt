@@ -8,7 +8,7 @@ use Rattle.sai_types.specs.declared.ids.Vid.{Vid}
 use Rattle.sai_types.specs.declared.body.Body.{Body}
 use Rattle.sai_types.specs.declared.body.Entry.{Entry}
 use Rattle.sai_types.specs.declared.body.Object.{Object}
-use Rattle.sai_types.specs.declared.hop.Hop.{Hop}
+use Rattle.sai_types.specs.declared.weight.WHop.{WHop}
 use Rattle.sai_types.specs.declared.plan.Mode.{Mode}
 use Rattle.sai_types.specs.declared.plan.Mode.TheVariants as mode
 use Rattle.sai_types.specs.declared.thing.Thing.{Thing}
@@ -58,11 +58,11 @@ abbrev pub name_or : Option Thing → ThingName
 name_or None = name.Vlan 0
 name_or (Some w) = name_of w
 
-abbrev pub name_at : (Rid → List Hop) → Objects → Option (Entry Rid × Body Rid) → ThingName
+abbrev pub name_at : (Rid → List WHop) → Objects → Option (Entry Rid × Body Rid) → ThingName
 name_at tag objects None = name.Vlan 0
 name_at tag objects (Some o) = name_or (thing_by (tagged tag) objects o)
 
-abbrev pub old_name : (Rid → List Hop) → Objects → ℕ → ThingName
+abbrev pub old_name : (Rid → List WHop) → Objects → ℕ → ThingName
 old_name tag objects i = name_at tag objects (slice_get objects i)
 
 abbrev pub change_of : (ℕ → Thing) → (ℕ → ThingName) → PlanStep → PlanChange

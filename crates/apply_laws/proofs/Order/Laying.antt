@@ -11,13 +11,13 @@ use Rattle.sai_types.specs.declared.body.Entry.TheVariants as entry
 use Rattle.sai_types.specs.declared.body.Object.{Object}
 use Rattle.sai_types.specs.declared.body.RifOn.TheVariants as on
 use Rattle.sai_types.specs.declared.body.To.TheVariants as to
-use Rattle.sai_types.specs.declared.hop.Hop.{Hop}
+use Rattle.sai_types.specs.declared.weight.WHop.{WHop}
 use Rattle.sai_types.specs.declared.thing.Goal.TheVariants as goal
 use Rattle.sai_types.specs.declared.thing.Thing.{Thing}
 use Rattle.sai_types.specs.declared.thing.Thing.TheVariants as thing
 use Rattle.sai_types.specs.After.{entry_of}
 use Rattle.sai_types.specs.Alike.{IsIn}
-use Rattle.sai_types.specs.Named.{both, hops_at, named, next_hop_at, thing_by, thing_of, things_among, those}
+use Rattle.sai_types.specs.Named.{both, hops_at, named, thing_by, thing_of, things_among, those, whop_at}
 use Rattle.sai_types.specs.Objects.{Objects, body_at}
 use Rattle.sai_types.specs.Refusal.{same_id}
 use Rattle.sai_types.proofs.Exact.{entry-exact}
@@ -87,7 +87,7 @@ back (body.OwnAddress ip) = refl
 back (body.Neighbor i ip m) = refl
 back (body.NextHop i ip) = refl
 back body.Group = refl
-back (body.GroupMember i j) = refl
+back (body.GroupMember i j weight) = refl
 back (body.Route p to.Drop) = refl
 back (body.Route p (to.Rif i)) = refl
 back (body.Route p (to.NextHop i)) = refl
@@ -113,10 +113,10 @@ module _ {made : ℕ} {S : Objects} {new : List (Object Vid)} (m : IsMadeView ma
   abbrev N : List Thing
   N = chip_things S
 
-  abbrev tag : Rid → List Hop
+  abbrev tag : Rid → List WHop
   tag = tag_of S N
 
-  abbrev hops : Rid → List Hop
+  abbrev hops : Rid → List WHop
   hops = shown_hops S
 
   abbrev L : Layout Rid
@@ -177,7 +177,7 @@ module _ {made : ℕ} {S : Objects} {new : List (Object Vid)} (m : IsMadeView ma
       let g : Rid = record { 0 = at.0 } in
       let is : e ≡ entry.Oid g = entry-exact e (entry.Oid g) at.2 in
       subst (λ z. thing_of S (z, body.Group) ≡ thing_by (tagged tag) S (z, body.Group)) (sym is) (ap (option_map thing.Group) (real g (ap (body_at S) (sym is) ∙ found)))
-  same-thing e (body.GroupMember g n) found = ap (λ o. both thing.GroupMember o (next_hop_at S n)) (real g (member-group m.chip R m.same N e g n found))
+  same-thing e (body.GroupMember g n weight) found = ap (λ o. both thing.GroupMember o (whop_at S n weight)) (real g (member-group m.chip R m.same N e g n weight found))
   same-thing e (body.Route p (to.Group g)) found = ap (λ o. option_map (thing.Route p) (option_map goal.Group o)) (real g (route_group m.chip R m.same N g (m.chip.whole.refer.each e (body.Route p (to.Group g)) found)))
   same-thing e (body.Route p to.Drop) found = refl
   same-thing e (body.Route p (to.Rif r)) found = refl

@@ -10,11 +10,11 @@ use Rattle.sai_types.specs.declared.body.Body.{Body}
 use Rattle.sai_types.specs.declared.body.Body.TheVariants as body
 use Rattle.sai_types.specs.declared.body.Entry.{Entry}
 use Rattle.sai_types.specs.declared.body.Entry.TheVariants as entry
-use Rattle.sai_types.specs.declared.hop.Hop.{Hop}
+use Rattle.sai_types.specs.declared.weight.WHop.{WHop}
 use Rattle.sai_types.specs.declared.thing.Thing.{Thing}
 use Rattle.sai_types.specs.declared.thing.Thing.TheVariants as thing
 use Rattle.sai_types.specs.Alike.{IsIn}
-use Rattle.sai_types.specs.Named.{both, first_lane, hops_at, next_hop_at, thing_by, thing_of, things_among}
+use Rattle.sai_types.specs.Named.{both, first_lane, hops_at, thing_by, thing_of, things_among, whop_at}
 use Rattle.sai_types.proofs.Found.{same-refl}
 use Rattle.sai_types.proofs.Things.{both_mapped}
 use Rattle.chip_layout.proofs.Answering.{those_in}
@@ -102,13 +102,13 @@ key-name t u e = sym (name_by_key t) ∙ ap key_name e ∙ name_by_key u
 -- ---- the thing that an object shows, and its tagged one
 
 module _ {made : ℕ} {objects : Objects} (chip : IsListedChip made objects) (new : List Thing) (view : IsView new) where
-  abbrev tag : Rid → List Hop
+  abbrev tag : Rid → List WHop
   tag = tag_of objects new
 
-  abbrev hops : Rid → List Hop
+  abbrev hops : Rid → List WHop
   hops = shown_hops objects
 
-  group_in : (tags : List Hop) (hop : Hop) → IsIn (thing.GroupMember tags hop) new → IsIn (thing.Group tags) new
+  group_in : (tags : List WHop) (hop : WHop) → IsIn (thing.GroupMember tags hop) new → IsIn (thing.Group tags) new
   group_in tags hop i = let k = view.within.refers (thing.GroupMember tags hop) (name.Group tags) i (inl refl) in subst (λ z. IsIn z new) (is-group k.0 tags k.2) k.1
 
   -- ---- groups on the chip
@@ -173,20 +173,21 @@ module _ {made : ℕ} {objects : Objects} (chip : IsListedChip made objects) (ne
   -- ---- members
 
   -- a tagged member is that of an object
-  record IsMember (b : Body Rid) (tags : List Hop) (hop : Hop) : Type 0 where
+  record IsMember (b : Body Rid) (tags : List WHop) (hop : WHop) : Type 0 where
     group : Rid
     next : Rid
-    is : b ≡ body.GroupMember group next
+    weight : ℕ
+    is : b ≡ body.GroupMember group next weight
     tag_is : tag group ≡ tags
-    hop_is : next_hop_at objects next ≡ Some hop
+    hop_is : whop_at objects next weight ≡ Some hop
 
-  member_of : (e : Entry Rid) (b : Body Rid) (tags : List Hop) (hop : Hop) → thing_by (tagged tag) objects (e, b) ≡ Some (thing.GroupMember tags hop) → IsMember b tags hop
-  member_of e (body.GroupMember g n) tags hop h =
-      let m = both_mapped thing.GroupMember (Some (tag g)) (next_hop_at objects n) (thing.GroupMember tags hop) h in
+  member_of : (e : Entry Rid) (b : Body Rid) (tags : List WHop) (hop : WHop) → thing_by (tagged tag) objects (e, b) ≡ Some (thing.GroupMember tags hop) → IsMember b tags hop
+  member_of e (body.GroupMember g n weight) tags hop h =
+      let m = both_mapped thing.GroupMember (Some (tag g)) (whop_at objects n weight) (thing.GroupMember tags hop) h in
       let parts = member_parts m.0 tags m.1 hop m.4 in
-      record { group = g; next = n; is = refl; tag_is = same_Some (tag g) m.0 m.2 ∙ parts.0; hop_is = m.3 ∙ ap Some parts.1 }
+      record { group = g; next = n; weight = weight; is = refl; tag_is = same_Some (tag g) m.0 m.2 ∙ parts.0; hop_is = m.3 ∙ ap Some parts.1 }
     where
-      member_parts : (a c : List Hop) (x y : Hop) → thing.GroupMember a x ≡ thing.GroupMember c y → (a ≡ c) × (x ≡ y)
+      member_parts : (a c : List WHop) (x y : WHop) → thing.GroupMember a x ≡ thing.GroupMember c y → (a ≡ c) × (x ≡ y)
       member_parts a c x y e = (cc, cc)
   member_of e (body.Port l s m u) tags hop h = absurd cc
   member_of e (body.Vlan v) tags hop h = absurd cc
@@ -215,21 +216,21 @@ module _ {made : ℕ} {objects : Objects} (chip : IsListedChip made objects) (ne
       by true e = absurd (false≢true (sym single ∙ in-any (λ h. nat_lt h.0 g.0 && same_hops (hops h) (hops g)) (chip_groups objects) other i (and_from _ _ e (ap (λ hs. same_hops hs (hops g)) same ∙ hops_refl (hops g)))))
       by false e = no_lesser other.0 g.0 e
 
-  member_shows : (e : Entry Rid) (b : Body Rid) (g n : Rid) (hop : Hop) → IsIn g (chip_groups objects) → b ≡ body.GroupMember g n → next_hop_at objects n ≡ Some hop → thing_of objects (e, b) ≡ Some (thing.GroupMember (hops g) hop)
-  member_shows e b g n hop i is at = ap (λ x. thing_of objects (e, x)) is ∙ ap₂ (both thing.GroupMember) (hops_are g i) at
+  member_shows : (e : Entry Rid) (b : Body Rid) (g n : Rid) (weight : ℕ) (hop : WHop) → IsIn g (chip_groups objects) → b ≡ body.GroupMember g n weight → whop_at objects n weight ≡ Some hop → thing_of objects (e, b) ≡ Some (thing.GroupMember (hops g) hop)
+  member_shows e b g n weight hop i is at = ap (λ x. thing_of objects (e, x)) is ∙ ap₂ (both thing.GroupMember) (hops_are g i) at
 
-  number_of : (e : Entry Rid) (g n : Rid) → group_number (e, body.GroupMember g n) ≡ g.0
-  number_of (entry.Oid r) g n = refl
-  number_of (entry.Own ip) g n = refl
-  number_of (entry.Neigh r ip) g n = refl
-  number_of (entry.Route p) g n = refl
+  number_of : (e : Entry Rid) (g n : Rid) (weight : ℕ) → group_number (e, body.GroupMember g n weight) ≡ g.0
+  number_of (entry.Oid r) g n weight = refl
+  number_of (entry.Own ip) g n weight = refl
+  number_of (entry.Neigh r ip) g n weight = refl
+  number_of (entry.Route p) g n weight = refl
 
-  member_number : (e : Entry Rid) (b : Body Rid) (g n : Rid) → b ≡ body.GroupMember g n → group_number (e, b) ≡ g.0
-  member_number e b g n is = ap (λ x. group_number (e, x)) is ∙ number_of e g n
+  member_number : (e : Entry Rid) (b : Body Rid) (g n : Rid) (weight : ℕ) → b ≡ body.GroupMember g n weight → group_number (e, b) ≡ g.0
+  member_number e b g n weight is = ap (λ x. group_number (e, x)) is ∙ number_of e g n weight
 
   -- the group of a member that comes first is no double
-  first_member : (g n : Rid) (hop : Hop) (e : Entry Rid) (i : ℕ) → slice_get objects i ≡ Some (e, body.GroupMember g n) → IsIn g (chip_groups objects) → IsIn (thing.GroupMember (hops g) hop) new → ((m : ℕ) → HasKey objects m (key.GroupMember (hops g) hop) → ComesFirst objects i m) → is_double objects g ≡ false
-  first_member g n hop e i at there wanted first = single g (λ l.
+  first_member : (g n : Rid) (weight : ℕ) (hop : WHop) (e : Entry Rid) (i : ℕ) → slice_get objects i ≡ Some (e, body.GroupMember g n weight) → IsIn g (chip_groups objects) → IsIn (thing.GroupMember (hops g) hop) new → ((m : ℕ) → HasKey objects m (key.GroupMember (hops g) hop) → ComesFirst objects i m) → is_double objects g ≡ false
+  first_member g n weight hop e i at there wanted first = single g (λ l.
       let h = least chip new view (suc l.other.0) l.other (omega arith) l.there in
       let hops_same : hops h.0 ≡ hops g = h.3 ∙ l.same in
       let group = subst (λ z. IsIn (thing.Group z) new) (sym hops_same) (group_in (hops g) hop wanted) in
@@ -238,12 +239,12 @@ module _ {made : ℕ} {objects : Objects} (chip : IsListedChip made objects) (ne
       let o = map-in (thing_by (tagged tag) objects) objects (Some (thing.GroupMember (hops g) hop)) (those_in (thing.GroupMember (hops g) hop) (map (thing_by (tagged tag) objects) objects) old) in
       let m = member_of o.0.0 o.0.1 (hops g) hop (sym o.2) in
       let group_is : m.group ≡ h.0 = tags-apart (group_stays objects new) (shown_hops objects) (rises chip new) (stays-apart objects new) m.group h.0 (m.tag_is ∙ sym hops_same ∙ sym stays) in
-      let member = placed o.0.0 o.0.1 (thing.GroupMember (hops h.0) hop) o.1 (member_shows o.0.0 o.0.1 h.0 m.next hop h.1 (m.is ∙ ap (λ k. body.GroupMember k m.next) group_is) m.hop_is) in
-      let group_no : group_number (o.0.0, o.0.1) ≡ h.0.0 = member_number o.0.0 o.0.1 h.0 m.next (m.is ∙ ap (λ k. body.GroupMember k m.next) group_is) in
-      let low = no_greater i member.place e o.0.0 (body.GroupMember g n) o.0.1 at member.at (first member.place (member.key ∙ ap (λ hs. Some (Some (key.GroupMember hs hop))) hops_same)) in
+      let member = placed o.0.0 o.0.1 (thing.GroupMember (hops h.0) hop) o.1 (member_shows o.0.0 o.0.1 h.0 m.next m.weight hop h.1 (m.is ∙ ap (λ k. body.GroupMember k m.next m.weight) group_is) m.hop_is) in
+      let group_no : group_number (o.0.0, o.0.1) ≡ h.0.0 = member_number o.0.0 o.0.1 h.0 m.next m.weight (m.is ∙ ap (λ k. body.GroupMember k m.next m.weight) group_is) in
+      let low = no_greater i member.place e o.0.0 (body.GroupMember g n weight) o.0.1 at member.at (first member.place (member.key ∙ ap (λ hs. Some (Some (key.GroupMember hs hop))) hops_same)) in
       let no_less = not_double h.0 l.other l.there (sym (h.3 ∙ refl)) h.2 in
       let less = l.less in
-      let mine = number_of e g n in
+      let mine = number_of e g n weight in
       omega (arith, low, mine, group_no, no_less, less))
 
   -- where an old object comes first of those of its key, and a new thing has that key, its tagged thing has the new one's name
@@ -265,8 +266,8 @@ module _ {made : ℕ} {objects : Objects} (chip : IsListedChip made objects) (ne
               let g = y.0 in
               let t_is : t ≡ thing.GroupMember (hops g) y.2 = is-member t (hops g) y.2 (sym same ∙ ap name_of y.4) in
               let member : IsIn (thing.GroupMember (hops g) y.2) new = subst (λ z. IsIn z new) t_is wanted in
-              let there = member_group chip new view e g y.1 y.2 (found ∙ ap Some y.3) (ap (λ z. thing_by (tagged tag) objects (e, z)) (sym y.3) ∙ is ∙ ap Some y.5) in
-              let single = first_member g y.1 y.2 e i (at ∙ ap Some (ap (object e) y.3)) there member (λ n k. first n (k ∙ ap (λ u. Some (Some (natural_key_of u))) (sym y.4))) in
+              let there = member_group chip new view e g y.1 (y.2).weight y.2 (found ∙ ap Some y.3) (ap (λ z. thing_by (tagged tag) objects (e, z)) (sym y.3) ∙ is ∙ ap Some y.5) in
+              let single = first_member g y.1 (y.2).weight y.2 e i (at ∙ ap Some (ap (object e) y.3)) there member (λ n k. first n (k ∙ ap (λ u. Some (Some (natural_key_of u))) (sym y.4))) in
               let stays = tag_is chip new view g (stays_if chip new view g there (new_group chip new view g y.2 member) single) in
               ap name_of y.5 ∙ ap (λ hs. name.GroupMember hs y.2) stays ∙ sym (ap name_of t_is)
         ]

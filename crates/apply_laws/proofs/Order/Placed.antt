@@ -8,7 +8,7 @@ use Rattle.sai_types.specs.declared.ids.Vid.{Vid}
 use Rattle.sai_types.specs.declared.body.Body.{Body}
 use Rattle.sai_types.specs.declared.body.Entry.{Entry}
 use Rattle.sai_types.specs.declared.body.Object.{Object}
-use Rattle.sai_types.specs.declared.hop.Hop.{Hop}
+use Rattle.sai_types.specs.declared.weight.WHop.{WHop}
 use Rattle.sai_types.specs.declared.thing.PortThing.{PortThing}
 use Rattle.sai_types.specs.declared.thing.Thing.{Thing}
 use Rattle.sai_types.specs.declared.thing.Thing.TheVariants as thing
@@ -112,7 +112,7 @@ module _ {made : ℕ} (old : List (Object Rid)) {new : List (Object Vid)} {thing
   abbrev N : List Thing
   N = things_in things
 
-  abbrev tag : Rid → List Hop
+  abbrev tag : Rid → List WHop
   tag = tag_of O N
 
   abbrev start : Layout Rid

@@ -6,15 +6,14 @@ use Rattle.sai_types.specs.declared.body.Body.{Body}
 use Rattle.sai_types.specs.declared.body.Body.TheVariants as body
 use Rattle.sai_types.specs.declared.body.Entry.{Entry}
 use Rattle.sai_types.specs.declared.body.Entry.TheVariants as entry
-use Rattle.sai_types.specs.declared.hop.Hop.{Hop}
+use Rattle.sai_types.specs.declared.weight.WHop.{WHop}
 use Rattle.sai_types.specs.declared.kind.Kind.TheVariants as kind
 use Rattle.sai_types.specs.declared.thing.Thing.{Thing}
 use Rattle.sai_types.specs.declared.thing.Thing.TheVariants as thing
 use Rattle.sai_types.specs.After.{entry_of}
 use Rattle.sai_types.specs.Alike.{IsIn}
 use Rattle.sai_types.specs.Made.{same_entry}
-use Rattle.std.specs.BTreeSet.{insert_key}
-use Rattle.sai_types.specs.Named.{both, hop_cmp, hops_among, hops_at, next_hop_at, thing_of, with_member}
+use Rattle.sai_types.specs.Named.{both, hops_among, hops_at, put_hop, thing_of, whop_at, with_member}
 use Rattle.sai_types.specs.Objects.{Objects, body_at, is_kind_of}
 use Rattle.std.specs.List.{list_all}
 use Rattle.sai_types.specs.References.{stands}
@@ -22,7 +21,7 @@ use Rattle.sai_types.specs.Refusal.{same_id}
 use Rattle.sai_types.proofs.Exact.{entry-exact, id-exact}
 use Rattle.sai_types.proofs.Found.{same-refl, same-symm}
 use Rattle.sai_types.proofs.Listed.{found-in, in-found}
-use Rattle.sai_types.proofs.Rising.{hop_exact, hop_total, same-rising}
+use Rattle.sai_types.proofs.Weights.{same-hops}
 use Rattle.chip_names.specs.Naming.{AreBodies}
 use Rattle.chip_names.proofs.SameNames.{hops_among-same, thing_by-same}
 use Rattle.chip_layout.specs.Layout.{Layout}
@@ -51,20 +50,20 @@ found_some (o ∷ os) e f b (inr i) same none = by (same_entry e o.0) refl none 
     by true h n rest = absurd cc
     by false h n rest = rest n
 
-no_members : (objects : Objects) (g : Rid) (os : Objects) → ((e : Entry Rid) (n : Rid) (h : Rid) → IsIn (e, body.GroupMember h n) os → same_id h g ≡ false) → hops_among objects g os ≡ Some []
+no_members : (objects : Objects) (g : Rid) (os : Objects) → ((e : Entry Rid) (n h : Rid) (weight : ℕ) → IsIn (e, body.GroupMember h n weight) os → same_id h g ≡ false) → hops_among objects g os ≡ Some []
 no_members objects g [] none = refl
-no_members objects g (o ∷ os) none = by o.1 (λ n h is. none o.0 n h (inl (pair is))) (no_members objects g os (λ e n h i. none e n h (inr i)))
+no_members objects g (o ∷ os) none = by o.1 (λ n h weight is. none o.0 n h weight (inl (pair is))) (no_members objects g os (λ e n h weight i. none e n h weight (inr i)))
   where
     pair : {b : Body Rid} → o.1 ≡ b → (o.0, b) ≡ o
     pair e = ap (λ z. (o.0, z)) (sym e)
 
-    by : (b : Body Rid) → ((n h : Rid) → b ≡ body.GroupMember h n → same_id h g ≡ false) → hops_among objects g os ≡ Some [] → with_member objects g b (hops_among objects g os) ≡ Some []
-    by (body.GroupMember h n) f rest = ap (λ c. cond c (both (insert_key hop_cmp) (hops_among objects g os) (next_hop_at objects n)) (hops_among objects g os)) (f n h refl) ∙ rest
+    by : (b : Body Rid) → ((n h : Rid) (weight : ℕ) → b ≡ body.GroupMember h n weight → same_id h g ≡ false) → hops_among objects g os ≡ Some [] → with_member objects g b (hops_among objects g os) ≡ Some []
+    by (body.GroupMember h n weight) f rest = ap (λ c. cond c (both put_hop (hops_among objects g os) (whop_at objects n weight)) (hops_among objects g os)) (f n h weight refl) ∙ rest
     by (body.Port l s m u) f rest = rest
     by _ f rest = rest
 
 module _ {made : ℕ} {S : Objects} (chip : IsListedChip made S) (R : Objects) (same : IsPermutation R S) (N : List Thing) where
-  abbrev tag : Rid → List Hop
+  abbrev tag : Rid → List WHop
   tag = tag_of S N
 
   abbrev L : Layout Rid
@@ -97,8 +96,8 @@ module _ {made : ℕ} {S : Objects} (chip : IsListedChip made S) (R : Objects) (
   pub route_group : (g : Rid) → list_all (stands S) ((kind.Group, entry.Oid g) ∷ []) ≡ true → body_at S (entry.Oid g) ≡ Some body.Group
   route_group g h = group_only (body_at S (entry.Oid g)) (and_parts _ _ h).0
 
-  pub member-group : (e : Entry Rid) (g n : Rid) → body_at S e ≡ Some (body.GroupMember g n) → body_at S (entry.Oid g) ≡ Some body.Group
-  member-group e g n found = group_only (body_at S (entry.Oid g)) (and_parts _ _ (chip.whole.refer.each e (body.GroupMember g n) found)).0
+  pub member-group : (e : Entry Rid) (g n : Rid) (weight : ℕ) → body_at S e ≡ Some (body.GroupMember g n weight) → body_at S (entry.Oid g) ≡ Some body.Group
+  member-group e g n weight found = group_only (body_at S (entry.Oid g)) (and_parts _ _ (chip.whole.refer.each e (body.GroupMember g n weight) found)).0
 
   pub group-there : (g : Rid) → body_at S (entry.Oid g) ≡ Some body.Group → L g (thing.Group (tag g))
   group-there g found = record { entry = entry.Oid g; body = body.Group; found = found; at = same-refl (entry.Oid g); thing = refl; none = λ h. absurd (false≢true (sym h)) }
@@ -106,10 +105,10 @@ module _ {made : ℕ} {S : Objects} (chip : IsListedChip made S) (R : Objects) (
   hops_of_group : (g : Rid) → body_at S (entry.Oid g) ≡ Some body.Group → hops_among S g R ≡ hops_among S g S
   hops_of_group g found =
       let s = group-there g found in
-      let a = among L S (old-laid chip N) g (tag g) (thing.Group (tag g), s, refl) R (λ e b i. found-raw e b i) in
-      let b = among L S (old-laid chip N) g (tag g) (thing.Group (tag g), s, refl) S (λ e b i. found-in S e b chip.whole.sorted i) in
+      let a = among L S (old-laid chip N) g (tag g) (thing.Group (tag g), s, refl) chip.whole.apart R (λ e b i. found-raw e b i) in
+      let b = among L S (old-laid chip N) g (tag g) (thing.Group (tag g), s, refl) chip.whole.apart S (λ e b i. found-in S e b chip.whole.sorted i) in
       a.is
-      ∙ ap Some (same-rising hop_cmp hop_total hop_exact a.those b.those a.rising b.rising (λ hop i.
+      ∙ ap Some (same-hops a.those b.those a.rising b.rising (λ hop i.
       let m = a.sound hop i in
       let has = (old-laid chip N).stand m.0 (thing.GroupMember (tag g) hop) m.1 in
       let o = in-found S (entry_of m.0.0 has.0) has.0 has.2 in
@@ -125,14 +124,14 @@ module _ {made : ℕ} {S : Objects} (chip : IsListedChip made S) (R : Objects) (
     where
       none : (body_at S (entry.Oid g) ≡ Some body.Group → ⊥) → hops_among S g R ≡ hops_among S g S
       none not =
-          no_members S g R (λ e n h i. apart e n h (found-raw e (body.GroupMember h n) i)) ∙ sym (no_members S g S (λ e n h i. apart e n h (found-in S e (body.GroupMember h n) chip.whole.sorted i)))
+          no_members S g R (λ e n h weight i. apart e n h weight (found-raw e (body.GroupMember h n weight) i)) ∙ sym (no_members S g S (λ e n h weight i. apart e n h weight (found-in S e (body.GroupMember h n weight) chip.whole.sorted i)))
         where
-          apart : (e : Entry Rid) (n h : Rid) → body_at S e ≡ Some (body.GroupMember h n) → same_id h g ≡ false
-          apart e n h found = told (same_id h g) refl
+          apart : (e : Entry Rid) (n h : Rid) (weight : ℕ) → body_at S e ≡ Some (body.GroupMember h n weight) → same_id h g ≡ false
+          apart e n h weight found = told (same_id h g) refl
             where
               told : (b : Bool) → same_id h g ≡ b → b ≡ false
               told false x = refl
-              told true x = absurd (not (subst (λ z. body_at S (entry.Oid z) ≡ Some body.Group) (id-exact h g x) (member-group e h n found)))
+              told true x = absurd (not (subst (λ z. body_at S (entry.Oid z) ≡ Some body.Group) (id-exact h g x) (member-group e h n weight found)))
 
       by : (o : Option (Body Rid)) → body_at S (entry.Oid g) ≡ o → hops_among S g R ≡ hops_among S g S
       by (Some body.Group) e = hops_of_group g e

@@ -3,7 +3,7 @@ use Rattle.std.proofs.Common.{◌≡◌, ℕ, Some, sym, ap, ap₂, ◌∙◌, L
 use Rattle.sai_types.specs.declared.ids.Rid.{Rid}
 use Rattle.sai_types.specs.declared.body.Body.{Body}
 use Rattle.sai_types.specs.declared.body.Entry.{Entry}
-use Rattle.sai_types.specs.declared.hop.Hop.{Hop}
+use Rattle.sai_types.specs.declared.weight.WHop.{WHop}
 use Rattle.sai_types.specs.declared.thing.Thing.{Thing}
 use Rattle.sai_types.specs.After.{entry_of}
 use Rattle.sai_types.specs.Named.{thing_by}
@@ -19,7 +19,7 @@ use Rattle.plan_laws.specs.Old.{old_layout, tag_of}
 use Rattle.plan_laws.proofs.Starting.{old-laid}
 
 module _ {made : ℕ} {objects : Objects} (chip : IsListedChip made objects) (new : List Thing) where
-  abbrev tag : Rid → List Hop
+  abbrev tag : Rid → List WHop
   tag = tag_of objects new
 
   abbrev start : Layout Rid

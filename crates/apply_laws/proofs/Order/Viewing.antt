@@ -1,6 +1,5 @@
 -- a new view that legal calls made is one that a plan can lead to
 use Rattle.std.proofs.Common.{◌≡◌, ◌↔◌, inl, inr, ℕ, true, List, [], ◌∷◌, map, Option, None, Some, option_map, refl, sym, ap, ap₂, ◌∙◌, subst}
-use Rattle.std.specs.List.Sorted.{IsStrictlySortedBy}
 use Rattle.std.specs.Option.{is_some}
 use Rattle.std.proofs.lemmas.Bool.{and_parts, false≢true}
 use Rattle.std.proofs.lemmas.Option.{same_Some}
@@ -14,14 +13,16 @@ use Rattle.swss_types.specs.declared.address.Ip.{Ip}
 use Rattle.sai_types.specs.declared.hop.Base.{Base}
 use Rattle.sai_types.specs.declared.hop.Base.TheVariants as base
 use Rattle.sai_types.specs.declared.hop.Hop.{Hop}
+use Rattle.sai_types.specs.declared.weight.WHop.{WHop}
 use Rattle.sai_types.specs.declared.thing.Goal.TheVariants as goal
 use Rattle.sai_types.specs.declared.thing.Thing.{Thing}
 use Rattle.sai_types.specs.declared.thing.Thing.TheVariants as thing
 use Rattle.sai_types.specs.After.{entry_of}
 use Rattle.sai_types.specs.Alike.{IsIn}
-use Rattle.sai_types.specs.Named.{first_lane, hop_cmp, named, thing_by, thing_of, things_among, those}
+use Rattle.sai_types.specs.Hop.{AreRisingHops}
+use Rattle.sai_types.specs.Named.{first_lane, named, thing_by, thing_of, things_among, those}
 use Rattle.sai_types.specs.Names as name
-use Rattle.sai_types.specs.Names.{ThingName, Refers, ShareLane, name_kind, name_of}
+use Rattle.sai_types.specs.Names.{ThingName, Refers, name_kind, name_of}
 use Rattle.sai_types.specs.Objects.{Objects, body_at}
 use Rattle.sai_types.specs.References.{refers_well}
 use Rattle.sai_types.specs.Refusal.{clash}
@@ -41,6 +42,7 @@ use Rattle.chip_layout.proofs.Distinct.{distinct-by}
 use Rattle.plan_laws.specs.Applied.{IsView, chip_things}
 use Rattle.plan_laws.specs.Calls.{viewed}
 use Rattle.plan_laws.specs.Old.{old_layout, old_things, tag_of}
+use Rattle.plan_laws.proofs.Apart.{PortsApart, lanes-new}
 use Rattle.plan_laws.proofs.Starting.{group-seen, group-there, hops-rise, hops-same, old-laid, old-named, old-seen, old-tagged, seen-old}
 use Rattle.view_match.specs.Keys.{natural_key_of}
 use Rattle.view_match.specs.Listed.{object_as, objects_as, rid_of}
@@ -73,7 +75,7 @@ module _ {made : ℕ} {S : Objects} {new : List (Object Vid)} (m : IsMadeView ma
   abbrev N : List Thing
   N = chip_things S
 
-  abbrev tag : Rid → List Hop
+  abbrev tag : Rid → List WHop
   tag = tag_of S N
 
   abbrev L : Layout Rid
@@ -268,13 +270,13 @@ module _ {made : ℕ} {S : Objects} {new : List (Object Vid)} (m : IsMadeView ma
 
   -- ---- its groups are whole
 
-  up : (hops : List Hop) → IsIn (thing.Group hops) (things_in laid_things) → IsStrictlySortedBy hop_cmp hops
+  up : (hops : List WHop) → IsIn (thing.Group hops) (things_in laid_things) → AreRisingHops hops
   up hops i =
       let s = stands-for (thing.Group hops) i in
       let g = group-seen m.chip N s.0 hops s.1 in
-      subst (IsStrictlySortedBy hop_cmp) (sym (g.0 ∙ tag-hops m s.0 (in_groups m s.0 g.1))) (hops-rise S s.0)
+      subst AreRisingHops (sym (g.0 ∙ tag-hops m s.0 (in_groups m s.0 g.1))) (hops-rise S s.0)
 
-  group-of : (hops : List Hop) (hop : Hop) → IsIn (thing.GroupMember hops hop) (things_in laid_things) → IsIn (thing.Group hops) (things_in laid_things)
+  group-of : (hops : List WHop) (hop : WHop) → IsIn (thing.GroupMember hops hop) (things_in laid_things) → IsIn (thing.Group hops) (things_in laid_things)
   group-of hops hop i =
       let s = stands-for (thing.GroupMember hops hop) i in
       let b = (old-laid m.chip N).stand s.0 (thing.GroupMember hops hop) s.1 in
@@ -318,8 +320,8 @@ module _ {made : ℕ} {S : Objects} {new : List (Object Vid)} (m : IsMadeView ma
       let ids : (each o.object o.among).id ≡ (each p.object p.among).id = ap rid_of (sym a ∙ b) in
       (old-laid m.chip N).ids (each p.object p.among).id t u (subst (λ z. L z t) ids (subst (L (each o.object o.among).id) o.thing (each o.object o.among).stands)) (subst (L (each p.object p.among).id) p.thing (each p.object p.among).stands) x y
 
-  lanes-in : (t u : Thing) → IsIn t (things_in laid_things) → IsIn u (things_in laid_things) → ShareLane t u → name_of t ≡ name_of u
-  lanes-in (thing.Port p) (thing.Port q) i j share =
+  lanes-in : PortsApart (things_in laid_things) (things_in laid_things)
+  lanes-in p q i j share =
       let s = stands-for (thing.Port p) i in
       let r = stands-for (thing.Port q) j in
       let a = (old-laid m.chip N).stand s.0 (thing.Port p) s.1 in
@@ -330,7 +332,6 @@ module _ {made : ℕ} {S : Objects} {new : List (Object Vid)} (m : IsMadeView ma
       let ports = sym a.1.body_is ∙ bodies ∙ b.1.body_is in
       let lanes : p.lanes ≡ q.lanes = cc in
       ap (λ ls. name.Port (first_lane ls)) lanes
-  lanes-in _ _ i j share = absurd share
 
   pub view-of : IsViewOf laid_things new
   view-of = record {
@@ -339,7 +340,7 @@ module _ {made : ℕ} {S : Objects} {new : List (Object Vid)} (m : IsMadeView ma
     keys = keys-are;
     once = names-apart;
     ids = one-id;
-    lanes = record { apart = λ t u i j share. elim j [ inl none ↦ elim none [ ] | inr other ↦ lanes-in t u i other share ] };
+    lanes = lanes-new is-view lanes-in;
   }
 
   -- and they are those that the chip would show

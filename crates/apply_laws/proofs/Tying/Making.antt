@@ -60,7 +60,7 @@ entry_given f v (body.VlanMember i j tagging) n h = ap (λ m. entry.Oid (record 
 entry_given f v (body.Rif o) n h = ap (λ m. entry.Oid (record { 0 = m })) (h refl)
 entry_given f v (body.NextHop i ip) n h = ap (λ m. entry.Oid (record { 0 = m })) (h refl)
 entry_given f v body.Group n h = ap (λ m. entry.Oid (record { 0 = m })) (h refl)
-entry_given f v (body.GroupMember i j) n h = ap (λ m. entry.Oid (record { 0 = m })) (h refl)
+entry_given f v (body.GroupMember i j weight) n h = ap (λ m. entry.Oid (record { 0 = m })) (h refl)
 
 tie_later : (made later : ℕ) (id : Bool) (o : Option Rid) → made ≤ later → IsTie made id o → IsTie later id o
 tie_later made later true (Some r) more h = (h.0, let most = h.1 in omega (arith, more, most))

@@ -54,7 +54,7 @@ module _ (P Q : Vid → Type 0) (f : (v : Vid) → P v → Q v) where
   more-body (body.Rif o) h = more-on o h
   more-body (body.Neighbor i ip mac) h = f i h
   more-body (body.NextHop i ip) h = f i h
-  more-body (body.GroupMember i j) h = (f i h.0, f j h.1)
+  more-body (body.GroupMember i j weight) h = (f i h.0, f j h.1)
   more-body (body.Route prefix t) h = more-to t h
   more-body (body.Port lanes speed mtu up) h = tt
   more-body _ h = tt
@@ -104,7 +104,7 @@ module _ (s t : Vid → Rid) where
   same-body (body.Rif o) h = ap body.Rif (same_on o h)
   same-body (body.Neighbor i ip mac) h = ap (λ x. body.Neighbor x ip mac) h
   same-body (body.NextHop i ip) h = ap (λ x. body.NextHop x ip) h
-  same-body (body.GroupMember i j) h = ap₂ (λ x y. body.GroupMember x y) h.0 h.1
+  same-body (body.GroupMember i j weight) h = ap₂ (λ x y. body.GroupMember x y weight) h.0 h.1
   same-body (body.Route prefix x) h = ap (body.Route prefix) (same-to x h)
   same-body (body.Port lanes speed mtu up) h = refl
   same-body (body.Vlan vlan) h = refl
@@ -182,7 +182,7 @@ module _ (t : Vid → Rid) where
     oid-of r w (body.Rif o) h = (refl, cc)
     oid-of r w (body.NextHop i ip) h = (refl, cc)
     oid-of r w body.Group h = (refl, cc)
-    oid-of r w (body.GroupMember i j) h = (refl, cc)
+    oid-of r w (body.GroupMember i j weight) h = (refl, cc)
 
     pub found-shown : (v : Vid) (d : Body Rid) → body_at (shown_by t os) (entry.Oid (t v)) ≡ Some d → IsShown v
     found-shown v d found =
@@ -216,7 +216,7 @@ module _ (t : Vid → Rid) where
     body-shown (body.Rif o) h = on_shown o h
     body-shown (body.Neighbor i ip mac) h = at_first kind.Rif i true h
     body-shown (body.NextHop i ip) h = at_first kind.Rif i _ h
-    body-shown (body.GroupMember i j) h = let parts = and_parts _ _ h in (at_kind kind.Group i parts.0, at_first kind.NextHop j true parts.1)
+    body-shown (body.GroupMember i j weight) h = let parts = and_parts _ _ h in (at_kind kind.Group i parts.0, at_first kind.NextHop j true parts.1)
     body-shown (body.Route prefix x) h = to_shown x h
     body-shown (body.Port lanes speed mtu up) h = tt
     body-shown _ h = tt

@@ -1,7 +1,7 @@
 // Objects, and where routes point.
-use crate::words::{id, ip, lanes, mac, prefix};
+use crate::words::{id, ip, lanes, mac, prefix, weight};
 use anyhow::{Context, Result, bail};
-use sai_types::{Body, Rid, RifOn, To};
+use sai_types::{Body, Rid, RifOn, To, Weight};
 use std::alloc::Global;
 use swss_types::{Lanes, Tagging};
 
@@ -67,16 +67,25 @@ fn above(words: &[&str]) -> Result<Body<Rid>> {
             ip: ip(address)?,
         }),
         ["group"] => Ok(Body::Group),
-        ["group_member", group, next_hop] => Ok(Body::GroupMember {
-            group: id(group)?,
-            next_hop: id(next_hop)?,
-        }),
+        ["group_member", group, next_hop] => group_member(group, next_hop, Weight::one()),
+        ["group_member", group, next_hop, number] => {
+            group_member(group, next_hop, weight(number)?)
+        }
         ["route", covers, to @ ..] => Ok(Body::Route {
             prefix: prefix(covers)?,
             to: target(to)?,
         }),
         _ => bail!("an object"),
     }
+}
+
+/// A member of a group.
+fn group_member(group: &str, next_hop: &str, weight: Weight) -> Result<Body<Rid>> {
+    Ok(Body::GroupMember {
+        group: id(group)?,
+        next_hop: id(next_hop)?,
+        weight,
+    })
 }
 
 /// Where a route points.

@@ -40,8 +40,9 @@ pub fn run_case(alloc: Global, case: &Case) -> Result<()> {
 
 /// Draws both views of a case.
 fn draw_views(alloc: Global, case: &Case) -> Result<Views> {
-    let old = draw_view(alloc, &ViewDraw::new(case.seed, 1), case.old, case.odd)?;
-    let new = draw_view(alloc, &ViewDraw::new(case.seed, 2), case.new, Odd::NONE)?;
+    let (first, second) = (ViewDraw::new(case.seed, 1), ViewDraw::new(case.seed, 2));
+    let old = draw_view(alloc, &first, case.old, case.weights, case.odd)?;
+    let new = draw_view(alloc, &second, case.new, case.weights, Odd::NONE)?;
     let caps = if case.tight {
         tight_room(old.as_slice(), new.as_slice())
     } else {

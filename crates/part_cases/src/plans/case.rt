@@ -28,6 +28,8 @@ pub struct Case {
     pub old: usize,
     /// How many things the new view has.
     pub new: usize,
+    /// Whether next hops have weights.
+    pub weights: bool,
     /// What is odd about the old chip.
     pub odd: Odd,
     /// Whether the chip has room for the greater of both views alone.
@@ -44,12 +46,14 @@ impl Case {
             seed: number(words.next())?,
             old: number(words.next())? as usize,
             new: number(words.next())? as usize,
+            weights: false,
             odd: Odd::NONE,
             tight: false,
             breaks: Vec::new(alloc),
         };
         while let Some(word) = words.next() {
             match word {
+                "weights" => case.weights = true,
                 "doubles" => case.odd.doubles = true,
                 "half" => case.odd.half = true,
                 "tight" => case.tight = true,

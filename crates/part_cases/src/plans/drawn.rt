@@ -2,7 +2,7 @@
 use crate::draw::ViewDraw;
 use crate::plans::case::Odd;
 use anyhow::{Context, Result};
-use sai_types::{Body, RifOn, To, Vid};
+use sai_types::{Body, RifOn, To, Vid, Weight};
 use std::alloc::Global;
 use swss_types::{Bits, Family, Ip, Lanes, Mac, Prefix, Tagging};
 
@@ -15,6 +15,7 @@ pub struct Drawn {
     alloc: Global,
     bodies: Vec<Body<Vid>>,
     most: usize,
+    weights: bool,
     rifs: Vec<Vid>,
     hops: Vec<(u8, Vid)>,
     groups: Vec<Vid>,
@@ -22,11 +23,18 @@ pub struct Drawn {
 }
 
 /// Draws a view of so many objects, each of which can be made after those before it.
-pub fn draw_view(alloc: Global, draw: &ViewDraw, most: usize, odd: Odd) -> Result<Vec<Body<Vid>>> {
+pub fn draw_view(
+    alloc: Global,
+    draw: &ViewDraw,
+    most: usize,
+    weights: bool,
+    odd: Odd,
+) -> Result<Vec<Body<Vid>>> {
     let mut view = Drawn {
         alloc,
         bodies: Vec::new(alloc),
         most,
+        weights,
         rifs: Vec::new(alloc),
         hops: Vec::new(alloc),
         groups: Vec::new(alloc),
@@ -127,17 +135,17 @@ impl Drawn {
             }
         }
         if odd.half {
-            self.put_group(set & set.wrapping_sub(1))?;
+            self.put_group(draw, round, set & set.wrapping_sub(1))?;
         }
         if set == 0 || self.sets.as_slice().contains(&set) {
             return Ok(());
         }
         self.sets.push(set)?;
-        if let Some(group) = self.put_group(set)? {
+        if let Some(group) = self.put_group(draw, round, set)? {
             self.groups.push(group)?;
         }
         if odd.doubles
-            && let Some(group) = self.put_group(set)?
+            && let Some(group) = self.put_group(draw, round, set)?
         {
             self.groups.push(group)?;
         }
@@ -145,11 +153,11 @@ impl Drawn {
     }
 
     /// Puts a group of the next hops of a set, where all of it has room. It tells the group's number.
-    fn put_group(&mut self, set: u64) -> Result<Option<Vid>> {
+    fn put_group(&mut self, draw: &ViewDraw, round: u8, set: u64) -> Result<Option<Vid>> {
         let mut members = Vec::new(self.alloc);
         for (number, hop) in self.hops.as_slice() {
             if set & bit(*number) != 0 {
-                members.push(*hop)?;
+                members.push((*hop, self.weight(draw, round, *number)))?;
             }
         }
         if self.most.saturating_sub(self.bodies.len()) <= members.len() {
@@ -158,10 +166,27 @@ impl Drawn {
         let Some(group) = self.put(Body::Group)? else {
             return Ok(None);
         };
-        for next_hop in members {
-            self.put(Body::GroupMember { group, next_hop })?;
+        for (next_hop, weight) in members {
+            self.put(Body::GroupMember {
+                group,
+                next_hop,
+                weight,
+            })?;
         }
         Ok(Some(group))
+    }
+
+    /// The weight of the next hop of a number in the groups of a round.
+    fn weight(&self, draw: &ViewDraw, round: u8, number: u8) -> Weight {
+        if !self.weights {
+            return Weight::one();
+        }
+        let weight = match draw.pick(round, 192 | number, 3) {
+            0 => Weight::new(2),
+            1 => Weight::new(255),
+            _ => None,
+        };
+        weight.unwrap_or(Weight::one())
     }
 
     /// Draws routes.

@@ -1,7 +1,7 @@
 // What may be seen of a chip while it is brought from an old view to a new one.
 use anyhow::{Result, ensure};
 use sai_chip::{Forward, SimChip, named};
-use sai_types::{Body, Entry, Hop, Rid, Thing, Vid};
+use sai_types::{Body, Entry, Rid, Thing, Vid, WHop};
 use std::alloc::Global;
 use swss_types::{Bits, Ip, Mac};
 use view_match::natural_keys;
@@ -107,7 +107,7 @@ impl Watch {
         Ok(())
     }
 
-    /// Whether the chip holds the things of the new view, and of groups that had the same hops the first at most.
+    /// Whether the chip holds the things of the new view, and of groups of the same hops and weights the first at most.
     pub fn ends_at(&self, alloc: Global, chip: &SimChip) -> Result<bool> {
         let objects = chip.objects(alloc)?;
         for object in objects.as_slice() {
@@ -119,7 +119,7 @@ impl Watch {
     }
 }
 
-/// The groups of a chip that have the hops of one that was made before.
+/// The groups of a chip that have the hops and weights of one that was made before.
 fn doubles(alloc: Global, chip: &SimChip) -> Result<Vec<Entry<Rid>>> {
     let (mut doubles, mut seen) = (Vec::new(alloc), Vec::new(alloc));
     let objects = chip.objects(alloc)?;
@@ -149,7 +149,8 @@ impl Way {
     }
 }
 
-/// Whether two answers have the same interface or hops, and where this is asked the same Ethernet addresses.
+/// Whether two answers have the same interface or hops with their weights, and where this is asked the same Ethernet
+/// addresses.
 fn agree(answer: &Forward, other: &Forward, macs: bool) -> bool {
     match (answer, other) {
         (Forward::Cpu, Forward::Cpu) | (Forward::Drop, Forward::Drop) => true,
@@ -162,8 +163,9 @@ fn agree(answer: &Forward, other: &Forward, macs: bool) -> bool {
     }
 }
 
-/// Whether two lists as long as each other have the same hops, and where this is asked the same Ethernet addresses.
-fn have_hops(ways: &[(Hop, Mac)], others: &[(Hop, Mac)], macs: bool) -> bool {
+/// Whether two lists as long as each other have the same hops with their weights, and where this is asked the same Ethernet
+/// addresses.
+fn have_hops(ways: &[(WHop, Mac)], others: &[(WHop, Mac)], macs: bool) -> bool {
     for (way, other) in ways.iter().zip(others) {
         if way.0 != other.0 || macs && way.1 != other.1 {
             return false;

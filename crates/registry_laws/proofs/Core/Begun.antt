@@ -3,7 +3,7 @@ use Rattle.std.proofs.Common.{◌≡◌, ◌∙◌, inl, inr, ℕ, true, false, 
 use Rattle.std.proofs.Math.Path.{fun_ext}
 use Rattle.std.proofs.lemmas.Option.{same_Some}
 use Rattle.table_schema.specs.Plan.{Ports}
-use Rattle.sai_types.specs.declared.hop.Hop.{Hop}
+use Rattle.sai_types.specs.declared.weight.WHop.{WHop}
 use Rattle.sai_types.specs.declared.ids.Rid.{Rid}
 use Rattle.sai_types.specs.declared.ids.Vid.{Vid}
 use Rattle.switch_machine.specs.Events.{SwitchState}
@@ -44,7 +44,7 @@ module _ (plan : Ports) (capacities : List ℕ) (names : Names) (room : RoomStat
   abbrev Now : Option GroupOperation → Type 0
   Now g = KnowsBoard plan capacities names room (put w (Some (flown_as f g)) flown) s.machine
 
-  abbrev begins : Option (List Hop) → Option (List Hop) → Option GroupOperation
+  abbrev begins : Option (List WHop) → Option (List WHop) → Option GroupOperation
   begins builds takes = group_begun plan f.worker builds takes
 
   its_worker : f.worker ≡ w
@@ -53,7 +53,7 @@ module _ (plan : Ports) (capacities : List ℕ) (names : Names) (room : RoomStat
   same : Now x.group
   same = subst (λ fl. KnowsBoard plan capacities names room fl s.machine) (sym (put_same w x flown at)) stands.board
 
-  begun_none : x.group ≡ None → (b t : Option (List Hop)) → group_to_build plan names f ≡ b → group_to_take f ≡ t → Now (begins b t)
+  begun_none : x.group ≡ None → (b t : Option (List WHop)) → group_to_build plan names f ≡ b → group_to_take f ≡ t → Now (begins b t)
   begun_none none (Some hops) t builds takes = subst (λ v. Now (Some (first_group plan v hops true))) (sym its_worker) (builds_begun plan capacities names room flown s.machine stands.board w x at hops none builds)
   begun_none none None (Some hops) builds takes = subst (λ v. Now (Some (first_group plan v hops false))) (sym its_worker) (takes_begun plan capacities names room flown s.machine stands.board w x at hops none builds takes)
   begun_none none None None builds takes = subst Now none same

@@ -1,7 +1,7 @@
 -- what is due next for a worker, and that the registry has the identifiers for it
 use Rattle.std.proofs.Common.{◌≡◌, ◌<◌, ◌∷◌, ◌++◌, ◌∙◌, inl, inr, ℕ, Bool, true, false, List, [], Option, None, Some, refl, sym, ap, subst}
 use Rattle.table_schema.specs.Plan.{IsPlan, Ports}
-use Rattle.sai_types.specs.declared.hop.Hop.{Hop}
+use Rattle.sai_types.specs.declared.weight.WHop.{WHop}
 use Rattle.sai_types.specs.declared.ids.Rid.{Rid}
 use Rattle.sai_types.specs.declared.ids.Vid.{Vid}
 use Rattle.sai_types.specs.declared.thing.Thing.{Thing}
@@ -74,7 +74,7 @@ module _ (plan : Ports) (is : IsPlan plan) (capacities : List ℕ) (names : Name
     pub no_group : (group_to_build plan names f ≡ None) × (group_to_take f ≡ None)
     no_group = by (group_to_build plan names f) (group_to_take f) refl refl
       where
-        by : (b t : Option (List Hop)) → group_to_build plan names f ≡ b → group_to_take f ≡ t → (group_to_build plan names f ≡ None) × (group_to_take f ≡ None)
+        by : (b t : Option (List WHop)) → group_to_build plan names f ≡ b → group_to_take f ≡ t → (group_to_build plan names f ≡ None) × (group_to_take f ≡ None)
         by (Some hops) t e h = not_some (first_group plan f.worker hops true) (begun_is ∙ ap (λ z. group_begun plan f.worker z (group_to_take f)) e)
         by None (Some hops) e h = not_some (first_group plan f.worker hops false) (begun_is ∙ ap (λ z. group_begun plan f.worker z (group_to_take f)) e ∙ ap (group_begun plan f.worker None) h)
         by None None e h = (e, h)

@@ -61,7 +61,7 @@ module _ (rid : Vid → Option Rid) where
   body_tied (thing.Neighbor hop mac) v u a b z h = one_in v (a (name.Rif hop.on) refl) z h
   body_tied (thing.NextHop hop) v u a b z h = one_in v (a (name.Rif hop.on) refl) z h
   body_tied (thing.Group hops) v u a b z h = elim h [ ]
-  body_tied (thing.GroupMember hops hop) v u a b z h = two_in v u (a (name.Group hops) refl) (b (name.NextHop hop) refl) z h
+  body_tied (thing.GroupMember hops hop) v u a b z h = two_in v u (a (name.Group hops) refl) (b (name.NextHop hop.hop) refl) z h
   body_tied (thing.Route prefix g) v u a b z h = target_tied g v a z h
 
   entry_tied : (t : Thing) (v a b : Vid) → (has_number t ≡ true → IsTiedBy rid v) → ((hop : Hop) → name_of t ≡ name.Neighbor hop → IsTiedBy rid a) → (z : Vid) → IsIn z (ids_of_entry (entry_by v (body_with t a b))) → IsTiedBy rid z

@@ -7,7 +7,7 @@ use Rattle.table_schema.specs.declared.key.Key.{Key}
 use Rattle.table_schema.specs.declared.key.Key.TheVariants as key
 use Rattle.swss_types.specs.declared.address.Ip.{Ip}
 use Rattle.swss_types.proofs.Proper.{mapped}
-use Rattle.sai_types.specs.declared.hop.Hop.{Hop}
+use Rattle.sai_types.specs.declared.weight.WHop.{WHop}
 use Rattle.sai_types.specs.declared.ids.Rid.{Rid}
 use Rattle.sai_types.specs.declared.ids.Vid.{Vid}
 use Rattle.sai_types.specs.declared.thing.Thing.{Thing}
@@ -92,7 +92,7 @@ made_numbered k _ o e = inl refl
 module _ (plan : Ports) where
   -- it belongs to no group
   abbrev IsAlone : ThingName → Type 0
-  IsAlone n = (hops : List Hop) → IsOwnedBy plan n (owner.Group hops) → ⊥
+  IsAlone n = (hops : List WHop) → IsOwnedBy plan n (owner.Group hops) → ⊥
 
   first_alone : (n : ThingName) → IsAlone n → IsFirst n
   first_alone (thing_name.GroupMember hops hop) alone = alone hops refl
@@ -201,7 +201,7 @@ module _ (plan : Ports) (is : IsPlan plan) (m : Machine) (sound : IsConsistent p
         by : (l : ThingName) → (name_of u ≡ l → ⊥) → ids_of (taken_names names l) (name_for o) ≡ ids_of names (name_for o)
         by (thing_name.BridgePort lane) apart = ap ids_in (gone_off names (owner.Bridge lane) o (λ e. apart (one_name plan is (name_of u) (thing_name.BridgePort lane) o numbered refl (λ hops x. no_group lane hops (e ∙ x)) of (ap Some e))))
           where
-            no_group : (lane : ℕ) (hops : List Hop) → owner.Bridge lane ≡ owner.Group hops → ⊥
+            no_group : (lane : ℕ) (hops : List WHop) → owner.Bridge lane ≡ owner.Group hops → ⊥
             no_group lane hops h = cc
         by (thing_name.Own ip) apart = ap ids_in (gone_off names (owner.Own ip) o (λ e. no_own plan is (name_of u) o ip (sym e) numbered of))
         by _ apart = refl

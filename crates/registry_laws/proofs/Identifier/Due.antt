@@ -2,7 +2,7 @@
 use Rattle.std.proofs.Common.{◌≡◌, ◌<◌, ◌∷◌, ◌∙◌, ℕ, true, List, Option, Some, refl, ap, subst}
 use Rattle.table_schema.specs.Plan.{IsPlan, Ports}
 use Rattle.sai_types.specs.declared.body.Call.{Call}
-use Rattle.sai_types.specs.declared.hop.Hop.{Hop}
+use Rattle.sai_types.specs.declared.weight.WHop.{WHop}
 use Rattle.sai_types.specs.declared.ids.Rid.{Rid}
 use Rattle.sai_types.specs.declared.ids.Vid.{Vid}
 use Rattle.sai_types.specs.declared.thing.Thing.{Thing}
@@ -25,7 +25,7 @@ use Rattle.registry_laws.specs.Identified.{Identified, IsVidOf, PortsStand, rid_
 use Rattle.registry_laws.proofs.Identifier.Telling.{making_told, setting_told, taking_told}
 
 -- no port is of a group
-pub group_ports : (m : Machine) (hops : List Hop) (c : Change) → PortsStand m (shared_things (owner.Group hops)) c
+pub group_ports : (m : Machine) (hops : List WHop) (c : Change) → PortsStand m (shared_things (owner.Group hops)) c
 group_ports m hops (Make t) = tt
 group_ports m hops (Set u) = λ p h same. absurd (shared_no_port (owner.Group hops) p h)
 group_ports m hops (Take n) = tt

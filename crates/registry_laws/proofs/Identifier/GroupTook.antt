@@ -1,14 +1,13 @@
 -- each object that stands has its identifier when the call of a group's operation is made
 use Rattle.std.proofs.Common.{◌≡◌, ◌∷◌, ◌++◌, ◌∙◌, inl, inr, ℕ, ◌+◌, Bool, true, false, cond, List, [], length, Option, Some, refl, sym, ap, subst}
 use Rattle.std.proofs.lemmas.List.{append_assoc, length-append}
-use Rattle.std.specs.List.Sorted.{IsStrictlySortedBy}
 use Rattle.table_schema.specs.Plan.{IsPlan, Ports}
 use Rattle.sai_types.specs.declared.body.Call.{Call}
 use Rattle.sai_types.specs.declared.ids.Rid.{Rid}
 use Rattle.sai_types.specs.declared.ids.Vid.{Vid}
 use Rattle.sai_types.specs.declared.thing.Thing.{Thing}
 use Rattle.sai_types.specs.Alike.{IsIn}
-use Rattle.sai_types.specs.Named.{hop_cmp}
+use Rattle.sai_types.specs.Hop.{AreRisingHops}
 use Rattle.sai_types.specs.Names.{ThingName, name_of}
 use Rattle.sai_types.proofs.Membership.{in-right}
 use Rattle.chip_layout.specs.Layout.{Layout, has_number, listed, with_thing, without}
@@ -88,7 +87,7 @@ module _ (plan : Ports) (is : IsPlan plan) (workers : ℕ) (capacities : List �
     can : CanMake plan F (StandsIn s.machine) z
     can = subst (Can plan F (StandsIn s.machine)) next_thing.3 runs.0
 
-    rising : IsStrictlySortedBy hop_cmp g.hops
+    rising : AreRisingHops g.hops
     rising =
         let used = (shared_of plan T F (fit_of plan T s.machine kept.sound x.next.worker F x.next.flying) z (owner.Group g.hops) of tt can.final).0 in
         let r = use_row_in plan F.key F.new (owner.Group g.hops) used in

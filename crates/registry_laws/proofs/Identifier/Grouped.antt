@@ -1,12 +1,11 @@
 -- each object that stands has its identifier when the call of a group's operation is made
 use Rattle.std.proofs.Common.{◌≡◌, ◌⊎◌, ◌∷◌, ◌++◌, ◌∙◌, inl, inr, ℕ, Bool, true, false, cond, List, [], length, Option, Some, refl, sym, ap, subst}
-use Rattle.std.specs.List.Sorted.{IsStrictlySortedBy}
 use Rattle.table_schema.specs.Plan.{Ports}
-use Rattle.sai_types.specs.declared.hop.Hop.{Hop}
+use Rattle.sai_types.specs.declared.weight.WHop.{WHop}
 use Rattle.sai_types.specs.declared.ids.Vid.{Vid}
 use Rattle.sai_types.specs.declared.thing.Thing.{Thing}
 use Rattle.sai_types.specs.declared.thing.Thing.TheVariants as thing
-use Rattle.sai_types.specs.Named.{hop_cmp}
+use Rattle.sai_types.specs.Hop.{AreRisingHops}
 use Rattle.sai_types.specs.Names as thing_name
 use Rattle.sai_types.specs.Names.{ThingName, name_of}
 use Rattle.row_layout.specs.Operations.{Change}
@@ -46,7 +45,7 @@ module _ (plan : Ports) where
   group_vid_as : (names names' : Names) (g : GroupOperation) (n : ThingName) (v : Vid) → group_ids names g ≡ ids_of names' (name.Group g.hops) → IsOwnedBy plan n (owner.Group g.hops) → HasGroupVid plan names g n v → HasVid plan names' n v
   group_vid_as names names' g n v same of x = by (group_names plan n g.hops of)
     where
-      by : (n ≡ thing_name.Group g.hops) ⊎ ((hop : Hop) × (n ≡ thing_name.GroupMember g.hops hop)) → HasVid plan names' n v
+      by : (n ≡ thing_name.Group g.hops) ⊎ ((hop : WHop) × (n ≡ thing_name.GroupMember g.hops hop)) → HasVid plan names' n v
       by (inl e) =
           let y = subst (λ z. HasGroupVid plan names g z v) e x in
           ap (vid_at plan names') e ∙ ap first_of (sym same) ∙ y.1
@@ -58,7 +57,7 @@ module _ (plan : Ports) where
   vid_grown : (names names' : Names) (g h : GroupOperation) (n : ThingName) (v : Vid) (more : List Vid) → h.hops ≡ g.hops → group_ids names' h ≡ group_ids names g ++ more → IsOwnedBy plan n (owner.Group g.hops) → HasGroupVid plan names g n v → HasGroupVid plan names' h n v
   vid_grown names names' g h n v more hops ids of x = by (group_names plan n g.hops of)
     where
-      by : (n ≡ thing_name.Group g.hops) ⊎ ((hop : Hop) × (n ≡ thing_name.GroupMember g.hops hop)) → HasGroupVid plan names' h n v
+      by : (n ≡ thing_name.Group g.hops) ⊎ ((hop : WHop) × (n ≡ thing_name.GroupMember g.hops hop)) → HasGroupVid plan names' h n v
       by (inl e) =
           let y = subst (λ z. HasGroupVid plan names g z v) e x in
           subst (λ z. HasGroupVid plan names' h z v) (sym e) (sym hops, ap first_of ids ∙ first_more (group_ids names g) more v y.1)
@@ -129,12 +128,12 @@ module _ (plan : Ports) (names : Names) (flown flown' : ℕ → Option Flown) (b
               apart (workers_one plan names flown builds x.worker w (sym (builds.building x.worker x.group x.under_way x.builds) ∙ sym (ap (λ z. state_of names (name.Group z)) hops) ∙ builds.building w g at b))
 
   -- and the one that is made
-  pub new_vid : (before after : List Thing) (z : Thing) (v : Vid) → IsStrictlySortedBy hop_cmp g.hops → shared_things (owner.Group g.hops) ≡ before ++ (z ∷ after) → length g.made ≡ length before → made ≡ Some v → IsVidOf plan later flown' (name_of z) v
+  pub new_vid : (before after : List Thing) (z : Thing) (v : Vid) → AreRisingHops g.hops → shared_things (owner.Group g.hops) ≡ before ++ (z ∷ after) → length g.made ≡ length before → made ≡ Some v → IsVidOf plan later flown' (name_of z) v
   new_vid before after z v rising things count is = by (placed g.hops before z after g.made v rising things count)
     where
       ids : group_ids later next ≡ g.made ++ (v ∷ [])
       ids = group_made later next b ∙ made_now ∙ ap (λ y. g.made ++ to_list y) is
 
-      by : ((z ≡ thing.Group g.hops) × (first_of (g.made ++ (v ∷ [])) ≡ Some v)) ⊎ ((hop : Hop) × (z ≡ thing.GroupMember g.hops hop) × (member_vid g.hops hop (members_ids (g.made ++ (v ∷ []))) ≡ Some v)) → IsVidOf plan later flown' (name_of z) v
+      by : ((z ≡ thing.Group g.hops) × (first_of (g.made ++ (v ∷ [])) ≡ Some v)) ⊎ ((hop : WHop) × (z ≡ thing.GroupMember g.hops hop) × (member_vid g.hops hop (members_ids (g.made ++ (v ∷ []))) ≡ Some v)) → IsVidOf plan later flown' (name_of z) v
       by (inl (e, found)) = subst (λ y. IsVidOf plan later flown' (name_of y) v) (sym e) (own_vid (thing_name.Group g.hops) v refl (refl, ap first_of ids ∙ found))
       by (inr (hop, e, found)) = subst (λ y. IsVidOf plan later flown' (name_of y) v) (sym e) (own_vid (thing_name.GroupMember g.hops hop) v refl (refl, ap (λ y. member_vid g.hops hop (members_ids y)) ids ∙ found))

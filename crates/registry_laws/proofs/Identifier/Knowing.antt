@@ -9,6 +9,7 @@ use Rattle.table_schema.specs.declared.row.Row.TheVariants as row
 use Rattle.swss_types.specs.declared.interface.IfName.{IfName}
 use Rattle.swss_types.proofs.Proper.{mapped}
 use Rattle.sai_types.specs.declared.hop.Hop.{Hop}
+use Rattle.sai_types.specs.declared.weight.WHop.{WHop}
 use Rattle.sai_types.specs.declared.ids.Rid.{Rid}
 use Rattle.sai_types.specs.declared.ids.Vid.{Vid}
 use Rattle.sai_types.specs.declared.thing.Goal.{Goal}
@@ -113,7 +114,7 @@ module _ (plan : Ports) (is : IsPlan plan) (m : Machine) (sound : IsConsistent p
       of_row : {X : Type 0} (o : Owner) (x : Option X) (g : X → Key) → option_map (λ z. owner.OfRow (g z)) x ≡ Some o → (p : Key) × (owner.OfRow p ≡ o)
       of_row o x g h = let y = mapped (λ z. owner.OfRow (g z)) x o h in (g y.0, y.2)
 
-      entered_known : (k : Key) (n : ThingName) (o : Owner) → IsOwnedBy plan n o → (o ≡ owner.OfRow k) ⊎ IsShared o → ((hops : List Hop) → o ≡ owner.Group hops → ⊥) → HasName (StandsIn m) n → ((hop : Hop) → n ≡ thing_name.Neighbor hop → HasName (StandsIn m) (thing_name.Rif hop.on)) → HaveIds names (entered k n)
+      entered_known : (k : Key) (n : ThingName) (o : Owner) → IsOwnedBy plan n o → (o ≡ owner.OfRow k) ⊎ IsShared o → ((hops : List WHop) → o ≡ owner.Group hops → ⊥) → HasName (StandsIn m) n → ((hop : Hop) → n ≡ thing_name.Neighbor hop → HasName (StandsIn m) (thing_name.Rif hop.on)) → HaveIds names (entered k n)
       entered_known k (thing_name.Neighbor hop) o of whose alone there rif =
           let x = mapped (λ i. owner.OfRow (key.Neigh i hop.ip)) (interface_on plan hop.on) o of in
           by x.0 x.1 x.2 whose

@@ -2,7 +2,7 @@
 use Rattle.std.proofs.Common.{◌≡◌, ◌∙◌, inl, inr, ℕ, Bool, true, false, cond, List, [], ◌∷◌, Option, None, refl, sym, ap, subst}
 use Rattle.std.proofs.lemmas.Option.{same_Some}
 use Rattle.table_schema.specs.Plan.{Ports}
-use Rattle.sai_types.specs.declared.hop.Hop.{Hop}
+use Rattle.sai_types.specs.declared.weight.WHop.{WHop}
 use Rattle.sai_types.specs.declared.ids.Vid.{Vid}
 use Rattle.sai_types.specs.Names as thing_name
 use Rattle.ref_counts.specs.declared.name.Name.TheVariants as name
@@ -18,10 +18,10 @@ use Rattle.registry_laws.proofs.Identifier.Ids.{building_in}
 
 -- ---- a name that is built has no identifier yet
 
-pub no_ids : (names : Names) (hops : List Hop) (w : ℕ) → state_of names (name.Group hops) ≡ state.Building w → ids_of names (name.Group hops) ≡ []
+pub no_ids : (names : Names) (hops : List WHop) (w : ℕ) → state_of names (name.Group hops) ≡ state.Building w → ids_of names (name.Group hops) ≡ []
 no_ids names hops w h = building_in (registered_at names (name.Group hops)) w h
 
-pub no_member_vid : (hops : List Hop) (hop : Hop) → member_vid hops hop [] ≡ None
+pub no_member_vid : (hops : List WHop) (hop : WHop) → member_vid hops hop [] ≡ None
 no_member_vid [] hop = refl
 no_member_vid (h ∷ hops) hop = refl
 

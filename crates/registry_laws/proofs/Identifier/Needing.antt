@@ -1,6 +1,5 @@
 -- which identifiers a change needs: those of rows that are named, of what is shared, and of its own name
-use Rattle.std.proofs.Common.{◌≡◌, ◌∷◌, ◌++◌, ◌∙◌, inl, inr, true, List, [], map, Option, None, Some, refl, sym, ap, subst}
-use Rattle.std.specs.BTreeSet.{insert_key}
+use Rattle.std.proofs.Common.{◌≡◌, ◌∷◌, ◌++◌, ◌∙◌, inl, inr, ℕ, true, List, [], map, Option, None, Some, refl, sym, ap, subst}
 use Rattle.std.specs.Prelude.{IsSome}
 use Rattle.swss_types.specs.declared.address.Prefix as key_prefix
 use Rattle.swss_types.specs.declared.interface.IfName.{IfName}
@@ -18,17 +17,18 @@ use Rattle.table_schema.specs.declared.row_hop.RowHop.{RowHop}
 use Rattle.sai_types.specs.declared.hop.Base.{Base}
 use Rattle.sai_types.specs.declared.hop.Base.TheVariants as base
 use Rattle.sai_types.specs.declared.hop.Hop.{Hop}
+use Rattle.sai_types.specs.declared.weight.WHop.{WHop}
 use Rattle.sai_types.specs.declared.thing.Goal.{Goal}
 use Rattle.sai_types.specs.declared.thing.Goal.TheVariants as goal
 use Rattle.sai_types.specs.declared.thing.Thing.{Thing}
 use Rattle.sai_types.specs.declared.thing.Thing.TheVariants as thing
 use Rattle.sai_types.specs.Alike.{IsIn}
-use Rattle.sai_types.specs.Named.{hop_cmp}
+use Rattle.sai_types.specs.Hop.{put_hop}
 use Rattle.sai_types.specs.Names as thing_name
 use Rattle.sai_types.specs.Names.{ThingName, name_kind, name_of}
 use Rattle.sai_types.proofs.Things.{both_mapped}
 use Rattle.sai_types.proofs.Membership.{all-in}
-use Rattle.switch_model.specs.Things.{base_of, hop_of, hops_of, lane_of}
+use Rattle.switch_model.specs.Things.{base_of, hop_of, hops_of, lane_of, whop_of}
 use Rattle.chip_layout.specs.Bodies.{is_numbered}
 use Rattle.row_layout.specs.Rows as owner
 use Rattle.row_layout.specs.Rows.{Owner, goal_to, goal_of, own_things}
@@ -47,21 +47,22 @@ use Rattle.registry_laws.proofs.Launched.{use_is}
 use Rattle.registry_laws.proofs.Identifier.Owning.{IsFirst}
 
 -- each hop of a route's row is on an interface of the plan
-same_hop_base : (plan : Ports) (x h : RowHop) (b : Hop) → hop_of plan x ≡ Some b → h ≡ x → (c : Base) × (base_of plan h.on ≡ Some c)
+same_hop_base : (plan : Ports) (x h : RowHop × ℕ) (b : WHop) → whop_of plan x ≡ Some b → h ≡ x → (c : Base) × (base_of plan h.0.on ≡ Some c)
 same_hop_base plan x h b at same =
-    let m = mapped (λ c. record { on = c; ip = x.ip }) (base_of plan x.on) b at in
-    (m.0, ap (λ (z : RowHop). base_of plan z.on) same ∙ m.1)
+    let hop = mapped (λ k. record { hop = k; weight = x.1 }) (hop_of plan x.0) b at in
+    let m = mapped (λ c. record { on = c; ip = x.0.ip }) (base_of plan x.0.on) hop.0 hop.1 in
+    (m.0, ap (λ (z : RowHop × ℕ). base_of plan z.0.on) same ∙ m.1)
 
-hops_based : (plan : Ports) (hops : List RowHop) (group : List Hop) (h : RowHop) → hops_of plan hops ≡ Some group → IsIn h hops → (c : Base) × (base_of plan h.on ≡ Some c)
+hops_based : (plan : Ports) (hops : List (RowHop × ℕ)) (group : List WHop) (h : RowHop × ℕ) → hops_of plan hops ≡ Some group → IsIn h hops → (c : Base) × (base_of plan h.0.on ≡ Some c)
 hops_based plan [] group h e i = elim i [ ]
 hops_based plan (x ∷ xs) group h e (inl same) =
-    let parts = both_mapped (insert_key hop_cmp) (hops_of plan xs) (hop_of plan x) group e in
+    let parts = both_mapped put_hop (hops_of plan xs) (whop_of plan x) group e in
     same_hop_base plan x h parts.1 parts.3 same
 hops_based plan (x ∷ xs) group h e (inr more) =
-    let parts = both_mapped (insert_key hop_cmp) (hops_of plan xs) (hop_of plan x) group e in
+    let parts = both_mapped put_hop (hops_of plan xs) (whop_of plan x) group e in
     hops_based plan xs parts.0 h parts.2 more
 
-some_hops : (o : Option (List Hop)) (g : Goal) → goal_to o ≡ Some g → (group : List Hop) × (o ≡ Some group)
+some_hops : (o : Option (List WHop)) (g : Goal) → goal_to o ≡ Some g → (group : List WHop) × (o ≡ Some group)
 some_hops None g h = not_some g h
 some_hops (Some hops) g h = (hops, refl)
 
@@ -92,17 +93,18 @@ module _ (plan : Ports) (names : Names) where
   rif_known : (k : Key) (r : Row) (i : IfName) (b : Base) → base_of plan i ≡ Some b → IsIn (key.Intf i) (names_of k r) → RowsKnown plan names k r → HaveIds names (name.Row (key.Intf i) ∷ [])
   rif_known k r i b at h rows = (rows (key.Intf i) (thing_name.Rif b) h (in_from (base_of plan i) (λ c. thing_name.Rif c ∷ []) b (thing_name.Rif b) at (inl refl)) refl tt, tt)
 
-  hops_known : (prefix : key_prefix.Prefix) (hops : List RowHop) (g : Goal) → goal_to (hops_of plan hops) ≡ Some g → RowsKnown plan names (key.Route prefix) (row.Route (route.Hops hops)) → HaveIds names (map (λ h. name.Row (key.Neigh h.on h.ip)) hops)
-  hops_known prefix hops g at rows = all-in (IsKnown names) (map (λ (h : RowHop). name.Row (key.Neigh h.on h.ip)) hops) (λ n i. by n (map_in (λ (h : RowHop). name.Row (key.Neigh h.on h.ip)) n hops i))
+  hops_known : (prefix : key_prefix.Prefix) (hops : List (RowHop × ℕ)) (g : Goal) → goal_to (hops_of plan hops) ≡ Some g → RowsKnown plan names (key.Route prefix) (row.Route (route.Hops hops)) → HaveIds names (map (λ h. name.Row (key.Neigh h.0.on h.0.ip)) hops)
+  hops_known prefix hops g at rows = all-in (IsKnown names) (map (λ (h : RowHop × ℕ). name.Row (key.Neigh h.0.on h.0.ip)) hops) (λ n i. by n (map_in (λ (h : RowHop × ℕ). name.Row (key.Neigh h.0.on h.0.ip)) n hops i))
     where
-      group : (group : List Hop) × (hops_of plan hops ≡ Some group)
+      group : (group : List WHop) × (hops_of plan hops ≡ Some group)
       group = some_hops (hops_of plan hops) g at
 
-      by : (n : registry_name.Name) → (h : RowHop) × IsIn h hops × (n ≡ name.Row (key.Neigh h.on h.ip)) → IsKnown names n
+      by : (n : registry_name.Name) → (h : RowHop × ℕ) × IsIn h hops × (n ≡ name.Row (key.Neigh h.0.on h.0.ip)) → IsKnown names n
       by n (h, i, same) =
           let b = hops_based plan hops group.0 h group.1 i in
-          let hop : Hop = record { on = b.0; ip = h.ip } in
-          subst (IsKnown names) (sym same) (rows (key.Neigh h.on h.ip) (thing_name.NextHop hop) (in_map (λ (z : RowHop). key.Neigh z.on z.ip) h hops i) (in_from (base_of plan h.on) (λ c. thing_name.Neighbor (record { on = c; ip = h.ip }) ∷ thing_name.NextHop (record { on = c; ip = h.ip }) ∷ []) b.0 (thing_name.NextHop hop) b.1 (inr (inl refl))) refl tt)
+          let ip = h.0.ip in
+          let hop : Hop = record { on = b.0; ip = ip } in
+          subst (IsKnown names) (sym same) (rows (key.Neigh h.0.on ip) (thing_name.NextHop hop) (in_map (λ (z : RowHop × ℕ). key.Neigh z.0.on z.0.ip) h hops i) (in_from (base_of plan h.0.on) (λ c. thing_name.Neighbor (record { on = c; ip = ip }) ∷ thing_name.NextHop (record { on = c; ip = ip }) ∷ []) b.0 (thing_name.NextHop hop) b.1 (inr (inl refl))) refl tt)
 
   -- what a route's row points at
   pub pointed_known : (prefix : key_prefix.Prefix) (r : RouteRow) (g : Goal) → goal_of plan r ≡ Some g → RowsKnown plan names (key.Route prefix) (row.Route r) → SharedKnown plan names (key.Route prefix) (row.Route r) → HaveIds names (pointed (Some (row.Route r)) g)
@@ -148,7 +150,7 @@ module _ (plan : Ports) (names : Names) where
       let x = group_use o (hops_of plan hops) h in
       of_group x.0 (subst (λ o. IsIn t (shared_things o)) x.2 in_it)
     where
-      of_group : (group : List Hop) → IsIn t (shared_things (owner.Group group)) → HaveIds names (referred (key.Route prefix) (Some (row.Route (route.Hops hops))) t)
+      of_group : (group : List WHop) → IsIn t (shared_things (owner.Group group)) → HaveIds names (referred (key.Route prefix) (Some (row.Route (route.Hops hops))) t)
       of_group group (inl e) = subst (λ z. HaveIds names (referred (key.Route prefix) (Some (row.Route (route.Hops hops))) z)) (sym e) tt
       of_group group (inr y) = let m = member_of group group t y in subst (λ z. HaveIds names (referred (key.Route prefix) (Some (row.Route (route.Hops hops))) z)) (sym m.2) tt
   shared_referred (key.Route prefix) (row.Route route.Drop) o t h in_it fit rows = elim h [ ]

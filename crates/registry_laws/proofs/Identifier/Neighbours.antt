@@ -7,7 +7,7 @@ use Rattle.table_schema.specs.Plan.{IsPlan, Ports}
 use Rattle.table_schema.specs.declared.key.Key.{Key}
 use Rattle.table_schema.specs.declared.key.Key.TheVariants as key
 use Rattle.table_schema.specs.declared.row.Row.{Row}
-use Rattle.sai_types.specs.declared.hop.Hop.{Hop}
+use Rattle.sai_types.specs.declared.weight.WHop.{WHop}
 use Rattle.sai_types.specs.declared.ids.Rid.{Rid}
 use Rattle.sai_types.specs.declared.ids.Vid.{Vid}
 use Rattle.sai_types.specs.declared.thing.Thing.TheVariants as thing
@@ -45,20 +45,20 @@ module _ (plan : Ports) (is : IsPlan plan) (m : Machine) (sound : IsConsistent p
 
   module _ (w : ℕ) (f : MachineFlight) (flying : m.board.flights w ≡ Some f) where
     -- the next hop of each hop of a group that the new row uses
-    hop_vid : (hops : List Hop) → IsIn (owner.Group hops) (uses_of plan f.key f.new) → (hop : Hop) → IsIn hop hops → (v : Vid) × HasVid plan names (thing_name.NextHop hop) v
+    hop_vid : (hops : List WHop) → IsIn (owner.Group hops) (uses_of plan f.key f.new) → (hop : WHop) → IsIn hop hops → (v : Vid) × HasVid plan names (thing_name.NextHop hop.hop) v
     hop_vid hops used hop i = by (use_row_in plan f.key f.new (owner.Group hops) used)
       where
-        leads : (r : Row) → f.new ≡ Some r → IsNamed plan f.key r (thing_name.NextHop hop) ⊎ IsOwnedBy plan (thing_name.NextHop hop) (owner.Group hops) → (v : Vid) × HasVid plan names (thing_name.NextHop hop) v
+        leads : (r : Row) → f.new ≡ Some r → IsNamed plan f.key r (thing_name.NextHop hop.hop) ⊎ IsOwnedBy plan (thing_name.NextHop hop.hop) (owner.Group hops) → (v : Vid) × HasVid plan names (thing_name.NextHop hop.hop) v
         leads r new (inl x) =
             let firm = sound.board.named f.key x.by r (inr (w, f, flying, refl, new)) x.named in
-            standing_vid plan is m sound names rid flown known (thing_name.NextHop hop) (owner.OfRow x.by) refl tt (T.names_own x.by (thing_name.NextHop hop) x.own) (row_built_by_none plan is m sound names rid flown known x.by) (sound.present x.by (thing_name.NextHop hop) firm x.own)
-        leads r new (inr of) = let x = mapped (λ n. owner.OfRow (key.Neigh n hop.ip)) (interface_on plan hop.on) (owner.Group hops) of in absurd (no_group (key.Neigh x.0 hop.ip) hops x.2)
+            standing_vid plan is m sound names rid flown known (thing_name.NextHop hop.hop) (owner.OfRow x.by) refl tt (T.names_own x.by (thing_name.NextHop hop.hop) x.own) (row_built_by_none plan is m sound names rid flown known x.by) (sound.present x.by (thing_name.NextHop hop.hop) firm x.own)
+        leads r new (inr of) = let x = mapped (λ n. owner.OfRow (key.Neigh n hop.hop.ip)) (interface_on plan hop.hop.on) (owner.Group hops) of in absurd (no_group (key.Neigh x.0 hop.hop.ip) hops x.2)
           where
-            no_group : (k : Key) (hops : List Hop) → owner.OfRow k ≡ owner.Group hops → ⊥
+            no_group : (k : Key) (hops : List WHop) → owner.OfRow k ≡ owner.Group hops → ⊥
             no_group k hops e = cc
 
-        by : (r : Row) × (f.new ≡ Some r) × IsIn (owner.Group hops) (uses plan f.key r) → (v : Vid) × HasVid plan names (thing_name.NextHop hop) v
-        by (r, new, h) = leads r new (T.shared_refers f.key r (owner.Group hops) (thing.GroupMember hops hop) (thing_name.NextHop hop) (fit_of plan T m sound w f flying r new) h (inr (in_members hops hops hop i)) (inr (inl refl)))
+        by : (r : Row) × (f.new ≡ Some r) × IsIn (owner.Group hops) (uses plan f.key r) → (v : Vid) × HasVid plan names (thing_name.NextHop hop.hop) v
+        by (r, new, h) = leads r new (T.shared_refers f.key r (owner.Group hops) (thing.GroupMember hops hop) (thing_name.NextHop hop.hop) (fit_of plan T m sound w f flying r new) h (inr (in_members hops hops hop i)) (inr (inl refl)))
 
     pub building_known : (g : GroupOperation) → g.builds ≡ true → IsGroupOver plan g → IsIn (owner.Group g.hops) (uses_of plan f.key f.new) → KnowsGroupIds names g
     building_known g builds over used = record {
@@ -66,13 +66,13 @@ module _ (plan : Ports) (is : IsPlan plan) (m : Machine) (sound : IsConsistent p
       group = λ b. true_not_false g.builds builds b;
     }
       where
-        key_of : Hop → Option Key
-        key_of h = option_map (λ n. key.Neigh n h.ip) (interface_on plan h.on)
+        key_of : WHop → Option Key
+        key_of h = option_map (λ n. key.Neigh n h.hop.ip) (interface_on plan h.hop.on)
 
         each : (k : Key) → IsIn k (neighbour_keys plan g.hops) → IsKnown names (name.Row k)
         each k i = by (map_in key_of (Some k) g.hops (those_in k (map key_of g.hops) i))
           where
-            by : (h : Hop) × IsIn h g.hops × (Some k ≡ key_of h) → IsKnown names (name.Row k)
+            by : (h : WHop) × IsIn h g.hops × (Some k ≡ key_of h) → IsKnown names (name.Row k)
             by (h, at, e) = let v = hop_vid g.hops used h at in ap is_some (ap (row_vid names) e ∙ v.1)
 
     pub going_known : (g : GroupOperation) → g.builds ≡ false → BuildsGroups names flown → state_of names (name.Group g.hops) ≡ state.Retiring w → HasWholeGroups names → (n : ThingName) (rest : List Change) → m.due w ≡ Take n ∷ rest → IsOwnedBy plan n (owner.Group g.hops) → KnowsGroupIds names g

@@ -6,7 +6,7 @@ use Rattle.swss_types.proofs.Proper.{mapped}
 use Rattle.table_schema.specs.Plan.{Ports, port_named}
 use Rattle.table_schema.specs.declared.key.Key.{Key}
 use Rattle.table_schema.specs.declared.key.Key.TheVariants as key
-use Rattle.sai_types.specs.declared.hop.Hop.{Hop}
+use Rattle.sai_types.specs.declared.weight.WHop.{WHop}
 use Rattle.sai_types.specs.declared.ids.Vid.{Vid}
 use Rattle.sai_types.specs.Names as thing_name
 use Rattle.sai_types.specs.Names.{ThingName, name_kind}
@@ -68,11 +68,11 @@ module _ (plan : Ports) where
 
   -- ---- what belongs to a group
 
-  not_group : {X : Type 0} (x : Option X) (f : X → Key) (hops : List Hop) {Y : Type 0} → option_map (λ z. owner.OfRow (f z)) x ≡ Some (owner.Group hops) → Y
+  not_group : {X : Type 0} (x : Option X) (f : X → Key) (hops : List WHop) {Y : Type 0} → option_map (λ z. owner.OfRow (f z)) x ≡ Some (owner.Group hops) → Y
   not_group None f hops h = absurd cc
   not_group (Some z) f hops h = absurd cc
 
-  pub group_names : (n : ThingName) (hops : List Hop) → IsOwnedBy plan n (owner.Group hops) → (n ≡ thing_name.Group hops) ⊎ ((hop : Hop) × (n ≡ thing_name.GroupMember hops hop))
+  pub group_names : (n : ThingName) (hops : List WHop) → IsOwnedBy plan n (owner.Group hops) → (n ≡ thing_name.Group hops) ⊎ ((hop : WHop) × (n ≡ thing_name.GroupMember hops hop))
   group_names (thing_name.Port lane) hops h = not_group (port_named plan lane) key.Port hops h
   group_names (thing_name.VlanMember vlan lane) hops h = not_group (port_named plan lane) (key.Member vlan) hops h
   group_names (thing_name.Rif b) hops h = not_group (interface_on plan b) key.Intf hops h
@@ -84,24 +84,24 @@ module _ (plan : Ports) where
 
   module _ (names : Names) where
     -- without identifiers of the group nothing of it has one
-    pub no_group_vid : (n : ThingName) (hops : List Hop) (v : Vid) → IsOwnedBy plan n (owner.Group hops) → ids_of names (name.Group hops) ≡ [] → HasVid plan names n v → ⊥
+    pub no_group_vid : (n : ThingName) (hops : List WHop) (v : Vid) → IsOwnedBy plan n (owner.Group hops) → ids_of names (name.Group hops) ≡ [] → HasVid plan names n v → ⊥
     no_group_vid n hops v of none x = by (group_names n hops of)
       where
-        by : (n ≡ thing_name.Group hops) ⊎ ((hop : Hop) × (n ≡ thing_name.GroupMember hops hop)) → ⊥
+        by : (n ≡ thing_name.Group hops) ⊎ ((hop : WHop) × (n ≡ thing_name.GroupMember hops hop)) → ⊥
         by (inl e) = not_some v (sym (ap first_of none) ∙ sym (ap (vid_at plan names) e) ∙ x)
         by (inr (hop, e)) = not_some v (sym (no_member_vid hops hop) ∙ sym (ap (λ z. member_vid hops hop (members_ids z)) none) ∙ sym (ap (vid_at plan names) e) ∙ x)
 
     -- a group that is built has identifiers of its own alone
-    pub built_hops : (g : GroupOperation) (n : ThingName) (hops : List Hop) (v : Vid) → IsOwnedBy plan n (owner.Group hops) → HasGroupVid plan names g n v → hops ≡ g.hops
+    pub built_hops : (g : GroupOperation) (n : ThingName) (hops : List WHop) (v : Vid) → IsOwnedBy plan n (owner.Group hops) → HasGroupVid plan names g n v → hops ≡ g.hops
     built_hops g n hops v of x = by (group_names n hops of)
       where
-        by : (n ≡ thing_name.Group hops) ⊎ ((hop : Hop) × (n ≡ thing_name.GroupMember hops hop)) → hops ≡ g.hops
+        by : (n ≡ thing_name.Group hops) ⊎ ((hop : WHop) × (n ≡ thing_name.GroupMember hops hop)) → hops ≡ g.hops
         by (inl e) = (subst (λ z. HasGroupVid plan names g z v) e x).0
         by (inr (hop, e)) = (subst (λ z. HasGroupVid plan names g z v) e x).0
 
-  pub group_numbered : (n : ThingName) (hops : List Hop) → IsOwnedBy plan n (owner.Group hops) → is_numbered (name_kind n) ≡ true
+  pub group_numbered : (n : ThingName) (hops : List WHop) → IsOwnedBy plan n (owner.Group hops) → is_numbered (name_kind n) ≡ true
   group_numbered n hops of = by (group_names n hops of)
     where
-      by : (n ≡ thing_name.Group hops) ⊎ ((hop : Hop) × (n ≡ thing_name.GroupMember hops hop)) → is_numbered (name_kind n) ≡ true
+      by : (n ≡ thing_name.Group hops) ⊎ ((hop : WHop) × (n ≡ thing_name.GroupMember hops hop)) → is_numbered (name_kind n) ≡ true
       by (inl e) = ap (λ z. is_numbered (name_kind z)) e
       by (inr (hop, e)) = ap (λ z. is_numbered (name_kind z)) e

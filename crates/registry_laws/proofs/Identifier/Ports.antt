@@ -7,7 +7,7 @@ use Rattle.table_schema.specs.declared.key.Key.TheVariants as key
 use Rattle.table_schema.specs.declared.row.Row.{Row}
 use Rattle.table_schema.specs.declared.row.Row.TheVariants as row
 use Rattle.sai_types.specs.declared.body.Call.{Call}
-use Rattle.sai_types.specs.declared.hop.Hop.{Hop}
+use Rattle.sai_types.specs.declared.weight.WHop.{WHop}
 use Rattle.sai_types.specs.declared.ids.Rid.{Rid}
 use Rattle.sai_types.specs.declared.ids.Vid.{Vid}
 use Rattle.sai_types.specs.declared.thing.PortThing.{PortThing}
@@ -138,7 +138,7 @@ module _ (plan : Ports) (is : IsPlan plan) (workers : ℕ) (capacities : List �
       no_group : IsOwnedBy plan (thing_name.Port (first_lane p.lanes)) (owner.Group hops) → ⊥
       no_group h = let m = mapped (λ q. owner.OfRow (key.Port q)) (port_named plan (first_lane p.lanes)) (owner.Group hops) h in other m.0 hops m.2
         where
-          other : (q : ℕ) (hops : List Hop) → owner.OfRow (key.Port q) ≡ owner.Group hops → ⊥
+          other : (q : ℕ) (hops : List WHop) → owner.OfRow (key.Port q) ≡ owner.Group hops → ⊥
           other q hops e = cc
 
   -- nor of another worker's

@@ -17,7 +17,7 @@ use Rattle.table_schema.specs.declared.key.Key.{Key}
 use Rattle.table_schema.specs.declared.key.Key.TheVariants as key
 use Rattle.sai_types.specs.declared.hop.Base.{Base}
 use Rattle.sai_types.specs.declared.hop.Base.TheVariants as base
-use Rattle.sai_types.specs.declared.hop.Hop.{Hop}
+use Rattle.sai_types.specs.declared.weight.WHop.{WHop}
 use Rattle.sai_types.specs.Named.{first_lane}
 use Rattle.sai_types.specs.Names as thing_name
 use Rattle.sai_types.specs.Names.{ThingName, name_kind}
@@ -72,7 +72,7 @@ module _ (plan : Ports) (is : IsPlan plan) where
   base_on (base.Vlan vlan) i h = let same : on.Vlan vlan ≡ i = same_Some (on.Vlan vlan) i h in ap (base_of plan) (sym same)
 
   -- what is no group's has its owner's name
-  named_by : (n : ThingName) (o : Owner) → is_numbered (name_kind n) ≡ true → ((hops : List Hop) → o ≡ owner.Group hops → ⊥) → IsOwnedBy plan n o → owner_name plan o ≡ Some n
+  named_by : (n : ThingName) (o : Owner) → is_numbered (name_kind n) ≡ true → ((hops : List WHop) → o ≡ owner.Group hops → ⊥) → IsOwnedBy plan n o → owner_name plan o ≡ Some n
   named_by (thing_name.Port lane) o numbered alone h =
       let m = mapped (λ p. owner.OfRow (key.Port p)) (port_named plan lane) o h in
       ap (owner_name plan) (sym m.2) ∙ ap (option_map thing_name.Port) (lane_named plan is.rising lane m.0 m.1)
@@ -91,12 +91,12 @@ module _ (plan : Ports) (is : IsPlan plan) where
   named_by (thing_name.GroupMember hops hop) o numbered alone h = absurd (alone hops (sym (same_Some (owner.Group hops) o h)))
   named_by _ o numbered alone h = absurd (false≢true numbered)
 
-  pub one_name : (n m : ThingName) (o : Owner) → is_numbered (name_kind n) ≡ true → is_numbered (name_kind m) ≡ true → ((hops : List Hop) → o ≡ owner.Group hops → ⊥) → IsOwnedBy plan n o → IsOwnedBy plan m o → n ≡ m
+  pub one_name : (n m : ThingName) (o : Owner) → is_numbered (name_kind n) ≡ true → is_numbered (name_kind m) ≡ true → ((hops : List WHop) → o ≡ owner.Group hops → ⊥) → IsOwnedBy plan n o → IsOwnedBy plan m o → n ≡ m
   one_name n m o x y alone of other = same_Some n m (sym (named_by n o x alone of) ∙ named_by m o y alone other)
 
   -- an own address has none
   pub no_own : (n : ThingName) (o : Owner) (ip : Ip) → o ≡ owner.Own ip → is_numbered (name_kind n) ≡ true → IsOwnedBy plan n o → ⊥
   no_own n o ip e numbered of = not_some n (sym (ap (owner_name plan) e) ∙ named_by n o numbered (λ hops h. no_group ip hops (sym e ∙ h)) of)
     where
-      no_group : (ip : Ip) (hops : List Hop) → owner.Own ip ≡ owner.Group hops → ⊥
+      no_group : (ip : Ip) (hops : List WHop) → owner.Own ip ≡ owner.Group hops → ⊥
       no_group ip hops h = cc

@@ -3,7 +3,7 @@ use Rattle.std.proofs.Common.{◌≡◌, ◌∙◌, inl, inr, ℕ, Bool, true, c
 use Rattle.std.proofs.lemmas.Option.{same_Some}
 use Rattle.table_schema.specs.Plan.{Ports}
 use Rattle.table_schema.specs.declared.row.Row.{Row}
-use Rattle.sai_types.specs.declared.hop.Hop.{Hop}
+use Rattle.sai_types.specs.declared.weight.WHop.{WHop}
 use Rattle.sai_types.specs.declared.ids.Rid.{Rid}
 use Rattle.sai_types.specs.declared.ids.Vid.{Vid}
 use Rattle.sai_types.specs.declared.thing.Thing.{Thing}
@@ -77,7 +77,7 @@ module _ (plan : Ports) (names : Names) (rid : Vid → Option Rid) (flown : ℕ 
       no_group h at = not_some h (sym none ∙ ap (λ (z : Flown). z.group) (same_Some x at.0 (sym here ∙ at.1)) ∙ at.2)
 
 -- of which nothing is made
-pub first_part : (plan : Ports) (w : ℕ) (hops : List Hop) (builds : Bool) → builds ≡ true → IsPartlyBuilt (first_group plan w hops builds)
+pub first_part : (plan : Ports) (w : ℕ) (hops : List WHop) (builds : Bool) → builds ≡ true → IsPartlyBuilt (first_group plan w hops builds)
 first_part plan w hops builds e = record { before = []; after = shared_things (owner.Group hops); things = refl; made = refl; due = ap (first_group_due hops) e }
 
 -- ---- an operation ends

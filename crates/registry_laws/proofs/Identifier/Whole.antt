@@ -6,7 +6,7 @@ use Rattle.std.proofs.lemmas.List.{append-nil}
 use Rattle.table_schema.specs.Fields.{HasRisingKeys}
 use Rattle.table_schema.specs.declared.key.Key.{Key}
 use Rattle.table_schema.specs.declared.row.Row.{Row}
-use Rattle.sai_types.specs.declared.hop.Hop.{Hop}
+use Rattle.sai_types.specs.declared.weight.WHop.{WHop}
 use Rattle.sai_types.specs.declared.ids.Vid.{Vid}
 use Rattle.sai_types.specs.declared.thing.Thing.{Thing}
 use Rattle.sai_types.specs.declared.thing.Thing.TheVariants as thing
@@ -34,11 +34,11 @@ use Rattle.registry_laws.proofs.Identifier.Starting.{ids_ended, ids_ended_off, i
 use Rattle.registry_laws.proofs.Identifier.Took.{live_after}
 
 -- the identifiers of a group are all of them, or none
-abbrev IsWholeWith : List Hop → List Vid → Type 0
+abbrev IsWholeWith : List WHop → List Vid → Type 0
 IsWholeWith hops ids = (ids ≡ []) ⊎ (length ids ≡ suc (length hops))
 
 -- groups that have the identifiers that they had
-whole_as : (names names' : Names) → HasWholeGroups names → ((hops : List Hop) → ids_of names' (name.Group hops) ≡ ids_of names (name.Group hops)) → HasWholeGroups names'
+whole_as : (names names' : Names) → HasWholeGroups names → ((hops : List WHop) → ids_of names' (name.Group hops) ≡ ids_of names (name.Group hops)) → HasWholeGroups names'
 whole_as names names' whole same = record { each = λ hops. subst (IsWholeWith hops) (sym (same hops)) (whole.each hops) }
 
 pub whole_same : (names names' : Names) → HaveSameIds names names' → HasWholeGroups names → HasWholeGroups names'
@@ -50,11 +50,11 @@ whole_ended names w k old None whole = whole_as names (ended_names names w k old
 
 -- ---- a row's operation
 
-no_made_group : (k : Key) (t : Thing) (hops : List Hop) → made_owner k t ≡ Some (owner.Group hops) → ⊥
+no_made_group : (k : Key) (t : Thing) (hops : List WHop) → made_owner k t ≡ Some (owner.Group hops) → ⊥
 no_made_group k (thing.BridgePort lane) hops e = cc
 no_made_group k _ hops e = cc
 
-after_ids : (names : Names) (k : Key) (c : Change) (made : Option Vid) (hops : List Hop) → ids_of (names_after names k c made) (name.Group hops) ≡ ids_of names (name.Group hops)
+after_ids : (names : Names) (k : Key) (c : Change) (made : Option Vid) (hops : List WHop) → ids_of (names_after names k c made) (name.Group hops) ≡ ids_of names (name.Group hops)
 after_ids names k (Make t) made hops = made_off names k t made (owner.Group hops) (no_made_group k t hops)
 after_ids names k (Set u) made hops = refl
 after_ids names k (Take (thing_name.BridgePort lane)) made hops = ap ids_in (gone_off names (owner.Bridge lane) (owner.Group hops) (λ e. cc))
@@ -90,10 +90,10 @@ whole_made g part none =
 
 module _ (names : Names) (g : GroupOperation) (made : Option Vid) (whole : HasWholeGroups names) where
   -- what becomes of the group's own name
-  group_by_own : (names' : Names) → ((hops : List Hop) → (owner.Group g.hops ≡ owner.Group hops → ⊥) → ids_of names' (name.Group hops) ≡ ids_of names (name.Group hops)) → IsWholeWith g.hops (ids_of names' (name.Group g.hops)) → HasWholeGroups names'
+  group_by_own : (names' : Names) → ((hops : List WHop) → (owner.Group g.hops ≡ owner.Group hops → ⊥) → ids_of names' (name.Group hops) ≡ ids_of names (name.Group hops)) → IsWholeWith g.hops (ids_of names' (name.Group g.hops)) → HasWholeGroups names'
   group_by_own names' off own = record { each = λ hops. by hops (owner_split (owner.Group g.hops) (owner.Group hops)) }
     where
-      by : (hops : List Hop) → IsSplit (owner.Group g.hops) (owner.Group hops) → IsWholeWith hops (ids_of names' (name.Group hops))
+      by : (hops : List WHop) → IsSplit (owner.Group g.hops) (owner.Group hops) → IsWholeWith hops (ids_of names' (name.Group hops))
       by hops (inl e) = let same : g.hops ≡ hops = cc in subst (λ z. IsWholeWith z (ids_of names' (name.Group z))) same own
       by hops (inr apart) = subst (IsWholeWith hops) (sym (off hops apart)) (whole.each hops)
 

@@ -20,7 +20,7 @@ use Rattle.sai_types.specs.declared.thing.Thing.TheVariants as thing
 use Rattle.sai_types.specs.After.{entry_of}
 use Rattle.sai_types.specs.Alike.{IsAlike, IsIn, IsOnceIn}
 use Rattle.sai_types.specs.Made.{IsWhole, same_entry}
-use Rattle.sai_types.specs.Named.{bridge_port_at, goal_by, hop_on, hops_at, named, next_hop_at, port_at, base_on, first_lane, thing_of, those, vlan_at}
+use Rattle.sai_types.specs.Named.{bridge_port_at, goal_by, hop_on, hops_at, named, port_at, base_on, first_lane, thing_of, those, vlan_at, whop_at}
 use Rattle.sai_types.specs.Names.{Meet}
 use Rattle.sai_types.specs.Objects.{Objects, body_at, is_of, used}
 use Rattle.sai_types.specs.Refusal.{capacity_of}
@@ -115,7 +115,7 @@ port_of_body plan objects (entry.Oid g) body.Group p planned shows = let m = map
 port_of_body plan objects (entry.Own ip) body.Group p planned shows = absurd cc
 port_of_body plan objects (entry.Neigh r ip) body.Group p planned shows = absurd cc
 port_of_body plan objects (entry.Route q) body.Group p planned shows = absurd cc
-port_of_body plan objects e (body.GroupMember g n) p planned shows = let m = both_mapped thing.GroupMember (hops_at objects g) (next_hop_at objects n) (thing.Port p) shows in let is = m.4 in absurd cc
+port_of_body plan objects e (body.GroupMember g n weight) p planned shows = let m = both_mapped thing.GroupMember (hops_at objects g) (whop_at objects n weight) (thing.Port p) shows in let is = m.4 in absurd cc
 port_of_body plan objects e (body.Route prefix to) p planned shows = let m = mapped (thing.Route prefix) (goal_by (hops_at objects) objects to) (thing.Port p) shows in let is = m.2 in absurd cc
 
 -- two ports of the plan that can't stand together have the same lanes

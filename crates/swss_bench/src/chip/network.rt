@@ -1,7 +1,7 @@
 // What the routes point to.
 use anyhow::{Context, Result, bail};
 use sai_chip::SimChip;
-use sai_types::{Body, Call, Chip, ChipAnswer, Rid, RifOn, To};
+use sai_types::{Body, Call, Chip, ChipAnswer, Rid, RifOn, To, Weight};
 use std::alloc::Global;
 use swss_types::{Bits, Family, Ip, Lanes, Mac};
 
@@ -54,13 +54,18 @@ impl Network {
         Ok(To::Group(id.copied().context("a group")?))
     }
 
-    /// Makes a group of two next hops.
+    /// Makes a group of two next hops, each with the weight 1.
     fn make_group(&self, chip: &mut SimChip, number: usize) -> Result<Rid> {
         let group = make(chip, Body::Group)?;
         let first = self.next_hop(number)?;
         let second = self.next_hop(number % NEXT_HOPS + 1 + number / NEXT_HOPS)?;
         for next_hop in [first, second] {
-            make(chip, Body::GroupMember { group, next_hop })?;
+            let member = Body::GroupMember {
+                group,
+                next_hop,
+                weight: Weight::one(),
+            };
+            make(chip, member)?;
         }
         Ok(group)
     }

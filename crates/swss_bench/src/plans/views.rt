@@ -1,6 +1,6 @@
 // The views that are planned.
 use anyhow::{Context, Result};
-use sai_types::{Body, Entry, Object, RifOn, To, Vid};
+use sai_types::{Body, Entry, Object, RifOn, To, Vid, Weight};
 use std::alloc::Global;
 use swss_types::{Bits, Family, Ip, Lanes, Mac, Prefix};
 
@@ -52,12 +52,16 @@ fn push_groups(
     Ok(groups)
 }
 
-/// Puts a group of these next hops.
+/// Puts a group of these next hops, each with the weight 1.
 fn push_group(objects: &mut Vec<Object<Vid>>, members: &[Vid]) -> Result<Vid> {
     let group = push(objects, Body::Group)?;
     for member in members {
-        let next_hop = *member;
-        push(objects, Body::GroupMember { group, next_hop })?;
+        let member = Body::GroupMember {
+            group,
+            next_hop: *member,
+            weight: Weight::one(),
+        };
+        push(objects, member)?;
     }
     Ok(group)
 }

@@ -5,6 +5,26 @@ use anyhow::{Context, Result};
 use part_cases::parted::Part;
 use std::alloc::Global;
 
+/// How a source or a sink fails.
+#[derive(Clone, Copy)]
+pub struct Failure {
+    /// How many bytes it gives or takes at once.
+    pub piece: usize,
+    /// The call at which it fails, from 1.
+    pub call: u64,
+}
+
+impl Failure {
+    /// What a line says of it.
+    fn read(text: &str) -> Result<Failure> {
+        let (piece, call) = text.split_once(' ').context("a size and a call")?;
+        Ok(Failure {
+            piece: piece.parse::<usize>().context("a size")?,
+            call: call.parse::<u64>().context("a call")?,
+        })
+    }
+}
+
 /// A script with the words of its run, and what is wanted.
 #[derive(Drop)]
 pub struct Case {
@@ -20,6 +40,10 @@ pub struct Case {
     pub output: Vec<u8>,
     /// Whether it is run from one source alone.
     pub once: bool,
+    /// Where its source fails, if it does.
+    pub source: Option<Failure>,
+    /// Where its sink fails, if it does.
+    pub sink: Option<Failure>,
     has_words: bool,
     has_output: bool,
 }
@@ -36,6 +60,8 @@ impl Case {
             facts: Vec::new(alloc),
             output: Vec::new(alloc),
             once: false,
+            source: None,
+            sink: None,
             has_words: false,
             has_output: false,
         })
@@ -69,6 +95,14 @@ impl Case {
             }
             "once" => {
                 self.once = true;
+                Ok(())
+            }
+            "source-fails" => {
+                self.source = Some(Failure::read(text)?);
+                Ok(())
+            }
+            "sink-fails" => {
+                self.sink = Some(Failure::read(text)?);
                 Ok(())
             }
             "output" => {

@@ -17,6 +17,8 @@ pub enum Fact {
     Senders,
     /// How many marks there were at the end of each round.
     Ends,
+    /// Whether there is a chip.
+    Chip,
 }
 
 impl Fact {
@@ -28,6 +30,7 @@ impl Fact {
             "taken" => Fact::Taken,
             "senders" => Fact::Senders,
             "ends" => Fact::Ends,
+            "chip" => Fact::Chip,
             _ => bail!("a line of a case"),
         })
     }
@@ -40,6 +43,7 @@ impl Fact {
             Fact::Taken => Ok(format!(in alloc; "{}", outcome.log.taken().len())?),
             Fact::Senders => senders(alloc, outcome),
             Fact::Ends => ends(alloc, outcome),
+            Fact::Chip => chip(alloc, outcome),
         }
     }
 }
@@ -81,6 +85,11 @@ fn ends(alloc: Global, outcome: &Outcome) -> Result<String> {
         add_word(&mut text, format!(in alloc; "{end}")?)?;
     }
     Ok(text)
+}
+
+fn chip(alloc: Global, outcome: &Outcome) -> Result<String> {
+    let told = if outcome.chip.is_some() { "yes" } else { "no" };
+    Ok(String::from_str(alloc, told)?)
 }
 
 /// Appends a word, and a blank before it unless it is the first.

@@ -1,5 +1,5 @@
 // Running a case.
-use crate::scripts::case::Case;
+use crate::scripts::case::{Case, Failure};
 use crate::scripts::fact::Fact;
 use anyhow::Result;
 use std::alloc::Global;
@@ -12,12 +12,15 @@ use swss_types::{MemSink, MemSource, Open};
 /// The most bytes of a script that is given a byte at a time.
 const SHORT: usize = 1_000_000;
 
-/// Runs a case from both sources, or from the first alone. What differs is printed.
+/// Runs a case from both sources, or from the first alone, or from the one that fails. What differs is printed.
 pub fn passes(
     rt: &(impl Threads + Wait + Sync + Print),
     alloc: Global,
     case: &Case,
 ) -> Result<bool> {
+    if case.source.is_some() || case.sink.is_some() {
+        return passes_from(rt, alloc, case, case.source, case.sink);
+    }
     let small = if case.script.len() <= SHORT { 1 } else { 1000 };
     let whole = passes_by(rt, alloc, case, usize::MAX)?;
     let pieces = case.once || passes_by(rt, alloc, case, small)?;
@@ -31,10 +34,29 @@ fn passes_by(
     case: &Case,
     piece: usize,
 ) -> Result<bool> {
-    let piece = piece.max(1);
-    let script = case.script.clone()?;
-    let mut source = MemSource::in_pieces(script, Vec::new(alloc), piece);
-    let mut sink = MemSink::in_pieces(alloc, Vec::new(alloc), piece);
+    // No call has the number 0, so neither fails.
+    let never = Some(Failure { piece, call: 0 });
+    passes_from(rt, alloc, case, never, never)
+}
+
+/// Runs a case from a source and into a sink that fail so; one of which nothing is said does all at once.
+fn passes_from(
+    rt: &(impl Threads + Wait + Sync + Print),
+    alloc: Global,
+    case: &Case,
+    source: Option<Failure>,
+    sink: Option<Failure>,
+) -> Result<bool> {
+    let whole = Failure {
+        piece: usize::MAX,
+        call: 0,
+    };
+    let Failure { piece, call } = source.unwrap_or(whole);
+    let fails = vec![in alloc; call]?;
+    let mut source = MemSource::in_pieces(case.script.clone()?, fails, piece.max(1));
+    let Failure { piece, call } = sink.unwrap_or(whole);
+    let fails = vec![in alloc; call]?;
+    let mut sink = MemSink::in_pieces(alloc, fails, piece.max(1));
     let words = case.words.as_slice();
     let outcome = swss_main(rt, alloc, words, &mut source, &mut sink, &Open);
     let facts = has_facts(rt, alloc, case, &outcome);

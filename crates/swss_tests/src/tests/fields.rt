@@ -125,7 +125,7 @@ const ROWS: [(&str, &[(&str, &str)], &str, &str); 6] = [
             ("nexthop", "10.0.0.2,10.0.0.3"),
             ("ifname", "Ethernet0,Ethernet4"),
         ],
-        "Some(Route(Hops(RowHops { hops: [RowHop { on: Ethernet(0), ip: Ip { family: V4, bits: 167772162 } }, RowHop { on: Ethernet(4), ip: Ip { family: V4, bits: 167772163 } }] })))",
+        "Some(Route(Hops(RowHops { hops: [(RowHop { on: Ethernet(0), ip: Ip { family: V4, bits: 167772162 } }, 1), (RowHop { on: Ethernet(4), ip: Ip { family: V4, bits: 167772163 } }, 1)] })))",
         "[Neigh(Ethernet(0), Ip { family: V4, bits: 167772162 }), Neigh(Ethernet(4), Ip { family: V4, bits: 167772163 })]",
     ),
     ("LAG_TABLE:PortChannel1", &[("a", "b")], "None", "[]"),

@@ -1,12 +1,14 @@
 // What a log holds.
-use super::run::run;
+use super::service::run_rounds;
 use sai_types::{Kind, Mode};
 use std::alloc::Global;
+use std::mem::drop;
 use std::process::Abort;
 use std::sync::Wait as Waiting;
 use std::thread::Threads;
 use switch_model::{Log, Mark, MarkEvent, PlacedLog, Wait, Waits};
-use swss_types::{IfName, MemSink, MemSource, Tagging};
+use swss_service::Rounded;
+use swss_types::{IfName, Open, Tagging};
 use table_schema::{Key, Row, Sent, Write};
 
 /// A port whose row is deleted under an interface.
@@ -43,12 +45,9 @@ fn look_at_run<R: Threads + Waiting + Sync + Abort>(
     wait: &Wait,
     has_row: bool,
 ) {
-    let script = Vec::from_slice(alloc, script).expect(rt, "memory");
-    let mut source = MemSource::new(script, Vec::new(alloc));
-    let mut sink = MemSink::new(alloc, Vec::new(alloc));
-    let outcome = run(rt, alloc, &mut source, &mut sink);
-    look_at_end(rt, &outcome.log, key, wait, has_row);
-    outcome.into_status();
+    let Rounded { locked, end: _ } = run_rounds(rt, alloc, script, 1, &Open);
+    look_at_end(rt, locked.core().log(), key, wait, has_row);
+    drop(locked);
 }
 
 #[test]

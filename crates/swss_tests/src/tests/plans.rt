@@ -1,6 +1,8 @@
 // Plans, pairings and ways of packets that are copied.
 use sai_chip::Ways;
-use sai_types::{Base, Body, Call, Entry, Hop, Pairing, PlanCall, PlanCalls, PlanId, Rid, Vid};
+use sai_types::{
+    Base, Body, Call, Entry, Hop, Pairing, PlanCall, PlanCalls, PlanId, Rid, Vid, WHop, Weight,
+};
 use swss_types::{Bits, Family, Ip, Mac};
 
 #[test]
@@ -31,14 +33,16 @@ fn a_pairing_is_copied(rt: HostRuntime) {
     assert!(&rt; copy.items() == [(0, 2), (1, 0)].as_slice(), "{copy:?}");
 }
 
-/// A next hop on the port whose first lane this is, with its Ethernet address.
-fn way(lane: u16) -> (Hop, Mac) {
+/// A next hop on the port whose first lane this is, with the weight 1 and its Ethernet address.
+fn way(lane: u16) -> (WHop, Mac) {
     let ip = Ip {
         family: Family::V4,
         bits: Bits::new(0x0A00_0001),
     };
     let on = Base::Port(lane);
-    (Hop { on, ip }, Mac([2, 0, 0, 0, 0, 1]))
+    let hop = Hop { on, ip };
+    let weight = Weight::one();
+    (WHop { hop, weight }, Mac([2, 0, 0, 0, 0, 1]))
 }
 
 #[test]

@@ -1,10 +1,9 @@
 // What no clause says of rounds: that workers step beside each other, and that with any number of them all comes to its end.
-use super::run::run;
 use super::service::settle_round;
 use round_actors::Hold;
 use std::alloc::Global;
 use std::test::*;
-use swss_types::{MemSink, MemSource, Open, OutOfMemory};
+use swss_types::{Open, OutOfMemory};
 
 /// Two ports, each with an interface and a neighbour, two routes over both neighbours and one over the first.
 const NINE_ROWS: [&str; 15] = [
@@ -36,21 +35,18 @@ fn text_of(alloc: Global, lines: &[&str]) -> Result<Vec<u8>, OutOfMemory> {
 }
 
 // Each of two workers is held behind its first step until the other's was seen: where actors ran one after the other, one of
-// the two would not meet. The program, which has one worker, prints the same.
+// the two would not meet. One worker leaves the same lines.
 #[test]
 fn two_workers_meet(rt: HostRuntime) {
     let text = text_of(rt.alloc(), NINE_ROWS.as_slice()).expect(&rt, "memory");
-    let copy = text.clone().expect(&rt, "memory");
-    let mut source = MemSource::new(copy, Vec::new(rt.alloc()));
-    let mut sink = MemSink::new(rt.alloc(), Vec::new(rt.alloc()));
-    run(&rt, rt.alloc(), &mut source, &mut sink).into_status();
+    let alone = settle_round(&rt, rt.alloc(), &text, 1, &Open);
     for (held, until) in [((0u32, 0u64), (1u32, 0u64)), ((1, 0), (0, 0))] {
         let gate = Hold::new(held, until);
         let left = settle_round(&rt, rt.alloc(), &text, 2, &gate);
         assert!(&rt; gate.met(), "the pause was seen");
         assert!(&rt; left.things.len() == 14, "the things");
         assert!(&rt; left.rows == 9, "the rows");
-        assert!(&rt; left.lines.as_slice() == sink.held(), "the lines");
+        assert!(&rt; left.lines == alone.lines, "the lines");
     }
 }
 

@@ -1,4 +1,4 @@
-// A service that runs the one round of a script.
+// A service that runs the rounds of a script.
 ghost use Rattle.std.specs.Prelude.{◌<◌, ◌≤◌};
 
 use orch_core::Settled;
@@ -27,8 +27,8 @@ pub struct Left {
     pub lines: Vec<u8>,
 }
 
-/// Runs the one round of a script on a new core and a new chip, by so many workers.
-fn run_round<R: Threads + Wait + Sync + Abort, G: Gate + Sync>(
+/// Runs the rounds of a script on a new core and a new chip, by so many workers.
+pub fn run_rounds<R: Threads + Wait + Sync + Abort, G: Gate + Sync>(
     rt: &R,
     alloc: Global,
     text: &[u8],
@@ -47,10 +47,16 @@ fn run_round<R: Threads + Wait + Sync + Abort, G: Gate + Sync>(
         .expect(rt, "memory")
         .expect(rt, "a script");
     let rounds = ScriptRounds::of(&producers, rounds);
-    assert!(rt; rounds.len() == 1, "the rounds");
     let chip = SimChip::new(alloc, caps, Vec::new(alloc));
-    let locked = Locked::begin(alloc, plan, caps, 1000, chip);
-    rounds.run(rt, alloc, locked, 0, workers, gate)
+    let mut rounded = Rounded {
+        locked: Locked::begin(alloc, plan, caps, 1000, chip),
+        end: RoundEnd::Ran(Settled::Settled),
+    };
+    for at in 0..rounds.len() {
+        let Rounded { locked, end: _ } = rounded;
+        rounded = rounds.run(rt, alloc, locked, at, workers, gate);
+    }
+    rounded
 }
 
 /// What the round of a script leaves, run by so many workers. It settles all.
@@ -63,7 +69,7 @@ pub fn settle_round<R: Threads + Wait + Sync + Abort, G: Gate + Sync>(
 ) -> Left
     requires { (0 < workers) × (workers ≤ 4) }
 {
-    let Rounded { locked, end } = run_round(rt, alloc, text, workers, gate);
+    let Rounded { locked, end } = run_rounds(rt, alloc, text, workers, gate);
     assert!(rt; end == RoundEnd::Ran(Settled::Settled), "{end:?}");
     let left = look(rt, alloc, &locked);
     drop(locked);

@@ -1,6 +1,6 @@
 // Values that are copied, and how the want of memory and a full log read.
 use orch_core::LogFull;
-use sai_types::{Base, Body, Entry, Goal, Hop, Hops, Object, PortThing, Rid, Thing};
+use sai_types::{Base, Body, Entry, Goal, Hop, Hops, Object, PortThing, Rid, Thing, WHop, Weight};
 use std::alloc::Global;
 use std::process::Abort;
 use switch_model::Wait;
@@ -21,11 +21,14 @@ fn lanes(rt: &impl Abort, alloc: Global) -> Lanes {
     lanes.expect(rt, "lanes")
 }
 
-/// The hop on the port whose first lane this is.
-fn hop(lane: u16) -> Hop {
-    Hop {
-        on: Base::Port(lane),
-        ip: ten(),
+/// The hop on the port whose first lane this is, with the weight 1.
+fn hop(lane: u16) -> WHop {
+    WHop {
+        hop: Hop {
+            on: Base::Port(lane),
+            ip: ten(),
+        },
+        weight: Weight::one(),
     }
 }
 

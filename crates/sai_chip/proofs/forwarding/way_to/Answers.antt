@@ -7,6 +7,6 @@ use Rattle.sai_chip.proofs.forwarding.way_to.Goals as goal
 
 pub way_by-requires-clause-stands : goal.way_by-requires-clause-stands
 way_by-requires-clause-stands c =
-    let found : body_at c.args.held.now (entry.Oid c.args.next_hop) ≡ Some (body.NextHop c.in-Some-NextHop.rif c.in-Some-NextHop.ip) =
-    ap (λ o. body_at o (entry.Oid c.args.next_hop)) (sym c.bodies.ensures) ∙ sym c.in-Some-NextHop.ensures ∙ ap Some c.in-Some-NextHop.field-0-is in
-    through-stands c.args.held.now c.in-Some-NextHop.rif c.in-Some-NextHop.ip (c.requires.refer.each (entry.Oid c.args.next_hop) (body.NextHop c.in-Some-NextHop.rif c.in-Some-NextHop.ip) found)
+    let found : body_at c.args.held.now (entry.Oid c.args.next_hop.0) ≡ Some (body.NextHop c.in-Some-NextHop.rif c.in-Some-NextHop.ip) =
+    ap (λ o. body_at o (entry.Oid c.args.next_hop.0)) (sym c.bodies.ensures) ∙ sym c.in-Some-NextHop.ensures ∙ ap Some c.in-Some-NextHop.field-0-is in
+    through-stands c.args.held.now c.in-Some-NextHop.rif c.in-Some-NextHop.ip (c.requires.refer.each (entry.Oid c.args.next_hop.0) (body.NextHop c.in-Some-NextHop.rif c.in-Some-NextHop.ip) found)

@@ -2,7 +2,7 @@ use Rattle.std.proofs.Common.{◌∙◌, ap, sym}
 use Rattle.std.specs.List.{list_any}
 use Rattle.sai_chip.specs.declared.mark.TakenMark.TheVariants as mark
 use Rattle.sai_chip.specs.Marks.{is_claimed}
-use Rattle.sai_chip.proofs.Clashes.{clashes-by, clashes-never, clashes-port, clash-vlan, clash-bridge_port, clash-vlan_member, clash-rif, clash-next_hop, clash-group_member}
+use Rattle.sai_chip.proofs.Clashes.{clashes-by, clashes-never, clashes-port, clash-vlan, clash-bridge_port, clash-vlan_member, clash-rif, clash-next_hop}
 use Rattle.sai_chip.proofs.table.clashes.Goals as goal
 
 pub returns-in-Port : goal.returns-in-Port
@@ -30,4 +30,4 @@ pub returns-in-NextHop : goal.returns-in-NextHop
 returns-in-NextHop c = clashes-by c.args.body.now _ (mark.NextHop c.in-NextHop.rif c.in-NextHop.ip) c.args.held.now c.has-in-NextHop.result c.in-NextHop.is (clash-next_hop c.in-NextHop.rif c.in-NextHop.ip) c.has-in-NextHop.ensures
 
 pub returns-in-GroupMember : goal.returns-in-GroupMember
-returns-in-GroupMember c = clashes-by c.args.body.now _ (mark.GroupMember c.in-GroupMember.group c.in-GroupMember.next_hop) c.args.held.now c.has-in-GroupMember.result c.in-GroupMember.is (clash-group_member c.in-GroupMember.group c.in-GroupMember.next_hop) c.has-in-GroupMember.ensures
+returns-in-GroupMember c = rw c.in-GroupMember.is (c.has_member.ensures c.in-GroupMember.weight)

@@ -19,5 +19,5 @@ returns c = rw (← c.self.view_is) (if_ok c.thing_at.result
 
 pub returns-in-GroupMember : goal.returns-in-GroupMember
 returns-in-GroupMember c = rw (c.in-GroupMember.is, ← c.self.view_is) (if_ok c.group_member_at.result
-    (λ found is objects are. is ∙ ap (both thing.GroupMember (hops_of_group c.self.inside.groups c.in-GroupMember.group)) c.hop-hop.ensures ∙ thing-named objects _ are c.args.object.now.entry (body.GroupMember c.in-GroupMember.group c.in-GroupMember.next_hop))
+    (λ found is objects are. is ∙ ap (both thing.GroupMember (hops_of_group c.self.inside.groups c.in-GroupMember.group)) c.whop-hop.ensures ∙ thing-named objects _ are c.args.object.now.entry (body.GroupMember c.in-GroupMember.group c.in-GroupMember.next_hop c.in-GroupMember.weight))
     c.group_member_at.ensures)

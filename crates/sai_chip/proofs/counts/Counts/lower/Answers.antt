@@ -26,4 +26,4 @@ pub returns-in-NextHop : goal.returns-in-NextHop
 returns-in-NextHop c = rw (c.in-NextHop.is, ← c.self.view_is) (with_next_hops less less_none _ c.in-NextHop.rif c.in-NextHop.ip c.lower-in-NextHop.new.counts c.lower-in-NextHop.ensures)
 
 pub returns-in-GroupMember : goal.returns-in-GroupMember
-returns-in-GroupMember c = rw (c.in-GroupMember.is, ← c.self.view_is) (with_group_members less less_none _ c.in-GroupMember.group c.in-GroupMember.next_hop c.lower_member.new.counts.entries c.lower_member.ensures)
+returns-in-GroupMember c = rw (c.in-GroupMember.is, ← c.self.view_is) (with_group_members less less_none _ c.in-GroupMember.group c.in-GroupMember.next_hop c.in-GroupMember.weight c.lower_member.new.counts.entries c.lower_member.ensures.less)

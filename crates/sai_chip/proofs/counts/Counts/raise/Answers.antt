@@ -27,4 +27,4 @@ pub returns-in-NextHop-clause-ok : goal.returns-in-NextHop-clause-ok
 returns-in-NextHop-clause-ok c = rw (c.in-NextHop.is, ← c.self.view_is) (on_ok_weaker c.raise-in-NextHop.result (λ h. with_next_hops more more_none _ c.in-NextHop.rif c.in-NextHop.ip c.raise-in-NextHop.new.counts h) c.raise-in-NextHop.ensures.ok)
 
 pub returns-in-GroupMember-clause-ok : goal.returns-in-GroupMember-clause-ok
-returns-in-GroupMember-clause-ok c = rw (c.in-GroupMember.is, ← c.self.view_is) (on_ok_weaker c.raise_member.result (λ h. with_group_members more more_none _ c.in-GroupMember.group c.in-GroupMember.next_hop c.raise_member.new.counts.entries h) c.raise_member.ensures.ok)
+returns-in-GroupMember-clause-ok c = rw (c.in-GroupMember.is, ← c.self.view_is) (on_ok_weaker c.raise_member.result (λ h. with_group_members more more_none _ c.in-GroupMember.group c.in-GroupMember.next_hop c.in-GroupMember.weight c.raise_member.new.counts.entries h) c.raise_member.ensures.ok)
