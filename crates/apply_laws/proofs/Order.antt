@@ -12,6 +12,7 @@ pub mod Placed
 pub mod Puts
 pub mod Ranked
 pub mod Roomy
+pub mod Routers
 pub mod Sets
 pub mod Shuffled
 pub mod Valued

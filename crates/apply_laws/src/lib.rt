@@ -10,8 +10,8 @@ mod ties;
 
 pub use orders::{
     applies_are_legal, applies_are_short, applies_lead_to_the_view, applies_show_old_or_new,
-    hitless_applies_are_steady, hitless_applies_keep, modes_are_told_by_room,
-    plans_are_of_the_views, views_are_laid_out,
+    hitless_applies_are_steady, hitless_applies_keep, modes_are_told, plans_are_of_the_views,
+    views_are_laid_out,
 };
 pub use syncs::{
     begun_applies_are_ready, hitless_calls_are_steady, next_calls_are_legal, plans_are_in_time,

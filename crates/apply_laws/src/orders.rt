@@ -23,7 +23,7 @@ ghost use Rattle.plan_laws.specs.Calls.{PlansChanges, resolve, viewed};
 ghost use Rattle.plan_laws.specs.Old.{old_layout};
 ghost use Rattle.plan_laws.specs.Plans.{PlanChange};
 ghost use Rattle.plan_laws.specs.Steady.{IsForwarding, IsHitless, IsOldOrNew, StaysNew};
-ghost use Rattle.plan_laws.specs.Views.{AreLacking, FitsHitless};
+ghost use Rattle.plan_laws.specs.Views.{AreLacking, FitsHitless, SameRouters};
 ghost use Rattle.apply_laws.specs.Apply.{IsApply, IsPlannedFrom, calls_by, plan_calls};
 ghost use Rattle.sai_types.specs.Objects.{Objects};
 ghost use Rattle.apply_laws.specs.Viewed.{IsMadeView, IsViewOf, things_in};
@@ -71,9 +71,9 @@ pub fn applies_show_old_or_new()
 {}
 
 /// A plan is hitless exactly where of each kind the old objects and the new names that the chip does not show number at
-/// most the capacity.
-pub fn modes_are_told_by_room()
-    ensures { (capacities : List ℕ) (made : ℕ) (old : List (Object Rid)) (new : List (Object Vid)) (things : List (Vid × Thing)) (plan : Plan) → IsPlannedFrom capacities made old new things plan → (plan.mode ≡ mode.Hitless) ↔ FitsHitless capacities (entries_of old) (chip_things (entries_of old)) (things_in things) }
+/// most the capacity, and no interface has to move to another virtual router.
+pub fn modes_are_told()
+    ensures { (capacities : List ℕ) (made : ℕ) (old : List (Object Rid)) (new : List (Object Vid)) (things : List (Vid × Thing)) (plan : Plan) → IsPlannedFrom capacities made old new things plan → (plan.mode ≡ mode.Hitless) ↔ (FitsHitless capacities (entries_of old) (chip_things (entries_of old)) (things_in things) × SameRouters (chip_things (entries_of old)) (things_in things)) }
 {}
 
 /// Of each kind a hitless apply makes at most as many objects as the view has names that the chip does not show, and it

@@ -18,6 +18,7 @@ use Rattle.apply_order.specs.declared.ranks.Timed.{Timed}
 kinds-by_level : (k l : Kind) → kind_ord.ghosts.cmp k l ≡ nat_cmp (level k) (level l)
 kinds-by_level kind.Port kind.Port = refl
 kinds-by_level kind.Vlan kind.Vlan = refl
+kinds-by_level kind.VirtualRouter kind.VirtualRouter = refl
 kinds-by_level kind.BridgePort kind.BridgePort = refl
 kinds-by_level kind.VlanMember kind.VlanMember = refl
 kinds-by_level kind.Rif kind.Rif = refl
@@ -34,9 +35,9 @@ ranks-by_phase (rank.Clear k) (rank.Clear l) = kinds-by_level l.0 k.0
 ranks-by_phase (rank.Build k) (rank.Build l) = kinds-by_level k l
 ranks-by_phase (rank.Make k) (rank.Make l) = kinds-by_level k l
 ranks-by_phase (rank.Set k) (rank.Set l) = kinds-by_level k l
-ranks-by_phase (rank.MakeRoute m) (rank.MakeRoute n) = refl
-ranks-by_phase rank.SetRoute rank.SetRoute = refl
-ranks-by_phase (rank.RemoveRoute m) (rank.RemoveRoute n) = refl
+ranks-by_phase (rank.MakeRoute m p) (rank.MakeRoute n q) = refl
+ranks-by_phase (rank.SetRoute p) (rank.SetRoute q) = refl
+ranks-by_phase (rank.RemoveRoute m p) (rank.RemoveRoute n q) = refl
 ranks-by_phase (rank.Remove k) (rank.Remove l) = kinds-by_level l.0 k.0
 ranks-by_phase r s = refl
 

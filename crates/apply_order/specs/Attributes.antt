@@ -45,7 +45,7 @@ differing names (body.Port lanes speed mtu up) (body.Port others speed' mtu' up'
     where_differs (speed == speed') (attr.Speed speed') ++ where_differs (mtu == mtu') (attr.Mtu mtu') ++ where_differs (beq up up') (attr.Up up')
 differing names (body.VlanMember vlan bridge_port tagging) (body.VlanMember vlan' bridge_port' tagging') = where_differs (tagging_eq.ghosts.eq tagging tagging') (attr.Tagging tagging')
 differing names (body.Neighbor rif ip mac) (body.Neighbor rif' ip' mac') = where_differs (mac_eq.ghosts.eq mac mac') (attr.Mac mac')
-differing names (body.Route prefix t) (body.Route prefix' t') = where_differs (is_same_target t (to_renamed (new_id names) t')) (attr.To (to_renamed (new_id names) t'))
+differing names (body.Route vr prefix t) (body.Route vr' prefix' t') = where_differs (is_same_target t (to_renamed (new_id names) t')) (attr.To (to_renamed (new_id names) t'))
 differing names b c = []
 
 -- the calls that set them

@@ -6,4 +6,5 @@ pub mod Places
 pub mod Planned
 pub mod Ranks
 pub mod Room
+pub mod Routers
 pub mod Turns

@@ -29,10 +29,14 @@ abbrev pub names_from : OldIds → List (Object Rid) → List (Object Vid) → L
 names_from names old new [] = names
 names_from names old new (p ∷ ps) = names_from (with_objects names (slice_get old p.0) (slice_get new p.1)) old new ps
 
+-- what a plan keeps of these names: a cold one nothing
+abbrev pub names_if : Mode → OldIds → OldIds
+names_if mode.Hitless names = names
+names_if mode.Cold names = []
+
 -- a hitless plan names a paired object by its old identifier, a cold one none
 abbrev pub names_in : Mode → List (Object Rid) → List (Object Vid) → List (ℕ × ℕ) → OldIds
-names_in mode.Hitless old new pairs = names_from [] old new pairs
-names_in mode.Cold old new pairs = []
+names_in m old new pairs = names_if m (names_from [] old new pairs)
 
 abbrev pub id_by : Option Rid → Vid → PlanId
 id_by (Some r) v = plan_id.Old r

@@ -11,11 +11,12 @@ use Rattle.apply_order.specs.Due.{due_steps}
 use Rattle.apply_order.specs.Naming.{names_in}
 use Rattle.apply_order.specs.Ranks.{timed_cmp}
 use Rattle.apply_order.specs.Room.{FitTogether}
+use Rattle.apply_order.specs.Routers.{KeepRouters}
 use Rattle.apply_order.specs.declared.ranks.Timed.{Timed}
 
--- the plan from old objects to new ones that are paired so: hitless exactly where there is room, and its calls are those of the steps that are due, in the order of their turns
+-- the plan from old objects to new ones that are paired so: hitless exactly where there is room and each interface stays in its virtual router, and its calls are those of the steps that are due, in the order of their turns
 pub record IsPlanOf (old : List (Object Rid)) (new : List (Object Vid)) (pairs : List (ℕ × ℕ)) (capacities : List ℕ) (plan : Plan) : Type 0 where
-  pub mode : (plan.mode ≡ mode.Hitless) ↔ FitTogether capacities old new pairs
+  pub mode : (plan.mode ≡ mode.Hitless) ↔ (FitTogether capacities old new pairs × KeepRouters old new pairs)
   pub steps : List Timed
   pub due : IsPermutation (due_steps plan.mode old new pairs) steps
   pub in_order : IsSorted timed_cmp steps

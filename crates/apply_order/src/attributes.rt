@@ -125,7 +125,7 @@ fn is_target(old: To<Rid>, new: To<PlanId>) -> bool
 }
 
 /// Whether a name is that of this old object.
-fn is_old(old: Rid, new: PlanId) -> bool
+pub(crate) fn is_old(old: Rid, new: PlanId) -> bool
     ensures { result ≡ is_old old new }
 {
     match new {

@@ -10,6 +10,7 @@ mod places;
 mod planned;
 mod ranks;
 mod room;
+mod routers;
 
 pub use laws::turns_are_ordered;
 pub use planned::{plan, plan_by};

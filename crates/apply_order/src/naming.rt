@@ -1,8 +1,8 @@
 // How a plan names objects.
-ghost use Rattle.std.specs.Prelude.{◌≡◌, IfOk, OnOk, option_copied, slice_get};
+ghost use Rattle.std.specs.Prelude.{◌≡◌, [], IfOk, OnOk, option_copied, slice_get};
 ghost use Rattle.chip_layout.specs.Renamed.{body_renamed, to_renamed};
 ghost use Rattle.plan_laws.specs.Calls.{old_entry};
-ghost use Rattle.apply_order.specs.Naming.{names_in, new_id, with_entries, with_objects};
+ghost use Rattle.apply_order.specs.Naming.{names_from, names_if, new_id, with_entries, with_objects};
 
 use chip_layout::{NewIds, body_with_ids, to_with_ids};
 use late_maps::LateMap;
@@ -29,24 +29,30 @@ impl NewIds<Vid, PlanId> for NewNames<'_> {
     }
 }
 
-/// The names of paired objects: a cold plan names none.
-pub(crate) fn names_in(
+/// The names of paired objects.
+pub(crate) fn names_of(
     alloc: Global,
-    mode: Mode,
     old: &[Object<Rid>],
     new: &[Object<Vid>],
     pairs: &[(u64, u64)],
 ) -> Result<Names, OutOfMemory>
-    ensures { IfOk result (λ names. names ≡ names_in mode old.now new.now pairs.now) }
+    ensures { IfOk result (λ names. names ≡ names_from [] old.now new.now pairs.now) }
 {
     let mut names = LateMap::new(alloc);
-    if mode == Mode::Cold {
-        return Ok(names);
-    }
     for pair in pairs {
         put_pair(&mut names, old, new, *pair)?;
     }
     Ok(names)
+}
+
+/// The names that a plan gives: a cold plan gives none.
+pub(crate) fn names_if(alloc: Global, mode: Mode, names: Names) -> Names
+    ensures { result ≡ names_if mode names }
+{
+    match mode {
+        Mode::Hitless => names,
+        Mode::Cold => LateMap::new(alloc),
+    }
 }
 
 /// Puts the name of a paired object.
@@ -88,6 +94,13 @@ fn put_entries(names: &mut Names, old: &Entry<Rid>, new: &Entry<Vid>) -> Result<
     }
 }
 
+/// A new object, as a plan names it.
+pub(crate) fn new_name(names: &Names, id: Vid) -> PlanId
+    ensures { result ≡ new_id names.now id }
+{
+    NewNames(names).new_id(id)
+}
+
 /// Where a route points, as a plan names it.
 pub(crate) fn new_to(names: &Names, to: To<Vid>) -> To<PlanId>
     ensures { result ≡ to_renamed (new_id names.now) to }
@@ -106,10 +119,10 @@ pub(crate) fn new_body(names: &Names, body: &Body<Vid>) -> Result<Body<PlanId>, 
 pub(crate) fn old_entry(entry: &Entry<Rid>) -> Entry<PlanId>
     ensures { result ≡ old_entry entry.now }
 {
-    match entry {
-        Entry::Oid(id) => Entry::Oid(PlanId::Old(*id)),
-        Entry::Own(ip) => Entry::Own(*ip),
-        Entry::Neigh(rif, ip) => Entry::Neigh(PlanId::Old(*rif), *ip),
-        Entry::Route(prefix) => Entry::Route(*prefix),
+    match *entry {
+        Entry::Oid(id) => Entry::Oid(PlanId::Old(id)),
+        Entry::Own(vr, ip) => Entry::Own(vr.map(PlanId::Old), ip),
+        Entry::Neigh(rif, ip) => Entry::Neigh(PlanId::Old(rif), ip),
+        Entry::Route(vr, prefix) => Entry::Route(vr.map(PlanId::Old), prefix),
     }
 }

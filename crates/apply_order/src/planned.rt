@@ -5,7 +5,7 @@ ghost use Rattle.apply_order.specs.Planned.{IsPlanOf};
 
 use crate::calls::calls_of;
 use crate::due::steps_of;
-use crate::naming::names_in;
+use crate::naming::{names_if, names_of};
 use crate::room::mode_of;
 use sai_types::{Caps, Object, Pairing, Plan, Rid, Vid};
 use std::alloc::Global;
@@ -13,10 +13,10 @@ use swss_types::OutOfMemory;
 use view_match::{NaturalKeys, natural_keys_of};
 
 /// The calls that bring a chip with the old objects to the new view. Where of each kind the old objects and the new ones
-/// that are not paired number at most the capacity, what is paired stays: the others are made, what differs is set, and
-/// what is left over is removed, in an order by which each address moves at most once. Else all is removed, and then all
-/// is made. An old object is named by its identifier on the chip, and a new one by that of the view, unless it is paired
-/// and stays.
+/// that are not paired number at most the capacity, and each paired interface is in the same virtual router, what is
+/// paired stays: the others are made, what differs is set, and what is left over is removed, in an order by which the way
+/// of each packet changes at most once. Else all is removed, and then all is made. An old object is named by its
+/// identifier on the chip, and a new one by that of the view, unless it is paired and stays.
 pub fn plan(
     alloc: Global,
     old: &[Object<Rid>],
@@ -43,8 +43,9 @@ pub fn plan_by(
     ensures { IfOk result (λ plan. IsPlanOf old.now new.now pairing.now caps.now.0 plan) }
 {
     let pairs = pairing.items();
-    let mode = mode_of(alloc, old, new, pairs, caps)?;
-    let names = names_in(alloc, mode, old, new, pairs)?;
+    let named = names_of(alloc, old, new, pairs)?;
+    let mode = mode_of(alloc, &named, old, new, pairs, caps)?;
+    let names = names_if(alloc, mode, named);
     let steps = steps_of(alloc, mode, &names, old, new, pairs, keys)?;
     let calls = calls_of(alloc, &names, old, new, steps.as_slice())?;
     Ok(Plan { mode, calls })

@@ -4,6 +4,7 @@ ghost use Rattle.apply_order.specs.Ranks.{make_rank, remove_rank, set_rank};
 
 use sai_types::{Body, Kind, Mode};
 use std::cmp::Reverse;
+use swss_types::Prefix;
 use view_match::NaturalKey;
 
 /// When a step's turn is: the variants in their order, and in each the steps by their kinds or lengths.
@@ -17,12 +18,12 @@ pub enum Rank {
     Make(Kind),
     /// Sets what differs on an object that is no route, the lowest kind first.
     Set(Kind),
-    /// Makes a route, the longest prefix first.
-    MakeRoute(Reverse<u8>),
-    /// Sets the target of a route.
-    SetRoute,
-    /// Removes a route, the shortest prefix first.
-    RemoveRoute(u8),
+    /// Makes a route, the longest prefix first, and those of one length by their prefixes.
+    MakeRoute(Reverse<u8>, Prefix),
+    /// Sets the target of a route, by the prefixes.
+    SetRoute(Prefix),
+    /// Removes a route, the shortest prefix first, and those of one length by their prefixes.
+    RemoveRoute(u8, Prefix),
     /// Removes an object that is no route, the highest kind first.
     Remove(Reverse<Kind>),
 }
@@ -57,7 +58,10 @@ pub(crate) fn make_rank<I>(mode: Mode, body: &Body<I>) -> Rank
 {
     match (mode, body) {
         (Mode::Cold, body) => Rank::Build(body.kind()),
-        (Mode::Hitless, Body::Route { prefix, .. }) => Rank::MakeRoute(Reverse(prefix.len)),
+        (Mode::Hitless, Body::Route { prefix, .. }) => Rank::MakeRoute(
+            Reverse(prefix.len),
+            *prefix,
+        ),
         (Mode::Hitless, body) => Rank::Make(body.kind()),
     }
 }
@@ -67,7 +71,7 @@ pub(crate) fn set_rank<I>(body: &Body<I>) -> Rank
     ensures { result ≡ set_rank body.now }
 {
     match body {
-        Body::Route { .. } => Rank::SetRoute,
+        Body::Route { prefix, .. } => Rank::SetRoute(*prefix),
         body => Rank::Set(body.kind()),
     }
 }
@@ -78,7 +82,7 @@ pub(crate) fn remove_rank<I>(mode: Mode, body: &Body<I>) -> Rank
 {
     match (mode, body) {
         (Mode::Cold, body) => Rank::Clear(Reverse(body.kind())),
-        (Mode::Hitless, Body::Route { prefix, .. }) => Rank::RemoveRoute(prefix.len),
+        (Mode::Hitless, Body::Route { prefix, .. }) => Rank::RemoveRoute(prefix.len, *prefix),
         (Mode::Hitless, body) => Rank::Remove(Reverse(body.kind())),
     }
 }

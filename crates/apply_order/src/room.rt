@@ -1,36 +1,48 @@
-// When there is room to keep what stands until the new view stands too.
-ghost use Rattle.std.specs.Prelude.{◌≡◌, ◌↔◌, ◌+◌, ◌^◌, ◌<◌, ◌≤◌, ◌==◌, length, slice_index, true, IfOk, if◌then◌else◌};
+// When what stands can be kept until the new view stands too.
+ghost use Rattle.std.specs.Prelude.{◌≡◌, ◌↔◌, ◌+◌, ◌^◌, ◌<◌, ◌≤◌, ◌==◌, ◌&&◌, [], length, slice_index, true, IfOk, if◌then◌else◌};
 ghost use Rattle.std.specs.List.{list_all};
 ghost use Rattle.sai_types.specs.declared.kind.Kind.{Kind};
 ghost use Rattle.sai_types.specs.Objects.{kind_of, level};
 ghost use Rattle.sai_types.specs.Refusal.{capacity_of};
+ghost use Rattle.apply_order.specs.Naming.{names_from};
 ghost use Rattle.apply_order.specs.Places.{IsTable, Places};
 ghost use Rattle.apply_order.specs.Room.{FitTogether, has_room, is_lacking, lacking_from, old_count};
+ghost use Rattle.apply_order.specs.Routers.{KeepRouters};
 
+use crate::naming::Names;
 use crate::places::{Partners, by_new, partner};
+use crate::routers::keep_routers;
 use sai_types::{Caps, KINDS, Kind, KindCounts, Mode, Object, Rid, Vid};
 use std::alloc::Global;
 use swss_types::OutOfMemory;
 
-/// The mode of a plan: hitless where there is room.
+/// The mode of a plan: hitless where there is room and each interface stays in its virtual router.
 pub(crate) fn mode_of(
     alloc: Global,
+    names: &Names,
     old: &[Object<Rid>],
     new: &[Object<Vid>],
     pairs: &[(u64, u64)],
     caps: &Caps,
 ) -> Result<Mode, OutOfMemory>
-    ensures { IfOk result (λ mode. (mode ≡ Mode.Hitless) ↔ FitTogether caps.now.0 old.now new.now pairs.now) }
+    requires named { names.now ≡ names_from [] old.now new.now pairs.now }
+    ensures { IfOk result (λ mode. (mode ≡ Mode.Hitless) ↔ (FitTogether caps.now.0 old.now new.now pairs.now × KeepRouters old.now new.now pairs.now)) }
 {
     let paired = by_new(alloc, new.len(), pairs)?;
-    Ok(mode_if(fits(&paired, old, new, caps)))
+    let room = fits(&paired, old, new, caps);
+    let kept = keep_routers(names, old, new, pairs);
+    Ok(mode_if(room, kept))
 }
 
-/// The mode of a plan that fits, or does not.
-fn mode_if(fits: bool) -> Mode
-    ensures { (result ≡ Mode.Hitless) ↔ (fits ≡ true) }
+/// The mode of a plan, by whether there is room and whether each interface is kept in its virtual router.
+fn mode_if(room: bool, kept: bool) -> Mode
+    ensures { (result ≡ Mode.Hitless) ↔ ((room && kept) ≡ true) }
 {
-    if fits { Mode::Hitless } else { Mode::Cold }
+    if room && kept {
+        Mode::Hitless
+    } else {
+        Mode::Cold
+    }
 }
 
 /// Whether there is room for the old objects of each kind and the new ones that are not paired.

@@ -5,6 +5,7 @@ use Rattle.std.proofs.lemmas.Option.{same_Some}
 use Rattle.swss_types.specs.Address.{IsProperPrefix}
 use Rattle.swss_types.specs.declared.address.Ip.{Ip}
 use Rattle.swss_types.specs.declared.vrf.Packet.{Packet}
+use Rattle.swss_types.specs.declared.vrf.Vrf.{Vrf}
 use Rattle.swss_types.specs.declared.address.Mac.{Mac}
 use Rattle.swss_types.specs.declared.address.Prefix.{Prefix}
 use Rattle.swss_types.proofs.Proper.{mapped}
@@ -28,7 +29,7 @@ use Rattle.sai_types.specs.Decided.{AreRoutes, DecideAlike}
 use Rattle.sai_types.specs.Forwarding.{Decision, alone, best_route, decide, decide_route, decision_of, forward, forwarding_of, has_own, hop_mac, same_hop}
 use Rattle.sai_types.specs.Forwarding as decision
 use Rattle.sai_types.specs.Made.{HaveLanes, IsWhole, is_one, same_entry}
-use Rattle.sai_types.specs.Named.{base_on, both, bridge_port_at, goal_by, hop_on, hops_among, hops_at, named, next_hop_at, port_at, put_hop, rif_at, those, thing_of, things_among, vlan_at, whop_at, with_member}
+use Rattle.sai_types.specs.Named.{base_on, both, bridge_port_at, goal_by, hop_on, hops_among, hops_at, named, next_hop_at, port_at, put_hop, rif_at, router_at, those, thing_of, things_among, vlan_at, whop_at, with_member}
 use Rattle.sai_types.specs.Names.{name_of}
 use Rattle.sai_types.specs.Objects.{Objects, body_at}
 use Rattle.sai_types.specs.Refusal.{same_id}
@@ -63,32 +64,34 @@ thing_in objects (o ∷ os) e b (inl is) = inl (ap (thing_of objects) is)
 thing_in objects (o ∷ os) e b (inr h) = inr (thing_in objects os e b h)
 
 -- a route's object
-record IsRoute (objects : Objects) (b : Body Rid) (p : Prefix) (g : Goal) : Type 0 where
+record IsRoute (objects : Objects) (b : Body Rid) (v : Vrf) (p : Prefix) (g : Goal) : Type 0 where
+  vr : Option Rid
   to : To Rid
-  body_is : b ≡ body.Route p to
+  body_is : b ≡ body.Route vr p to
   points : goal_by (hops_at objects) objects to ≡ Some g
 
-route_parts : (p q : Prefix) (g h : Goal) → thing.Route p g ≡ thing.Route q h → (p ≡ q) × (g ≡ h)
-route_parts p q g h e = (cc, cc)
+route_parts : (v w : Vrf) (p q : Prefix) (g h : Goal) → thing.Route v p g ≡ thing.Route w q h → (p ≡ q) × (g ≡ h)
+route_parts v w p q g h e = (cc, cc)
 
-route_object : (objects : Objects) (e : Entry Rid) (b : Body Rid) (p : Prefix) (g : Goal) → thing_of objects (e, b) ≡ Some (thing.Route p g) → IsRoute objects b p g
-route_object objects e (body.Route q t) p g h =
-    let m = mapped (thing.Route q) (goal_by (hops_at objects) objects t) (thing.Route p g) h in
-    let parts = route_parts q p m.0 g m.2 in
-    record { to = t; body_is = ap (λ z. body.Route z t) parts.0; points = m.1 ∙ ap Some parts.1 }
-route_object objects e (body.Port lanes speed mtu up) p g h = let is = same_Some _ _ h in absurd cc
-route_object objects e (body.Vlan v) p g h = let is = same_Some _ _ h in absurd cc
-route_object objects e (body.BridgePort port) p g h = let is = (mapped thing.BridgePort (port_at objects port) _ h).2 in absurd cc
-route_object objects e (body.VlanMember v b t) p g h = let is = (both_mapped (λ x y. thing.VlanMember x y t) (vlan_at objects v) (bridge_port_at objects b) _ h).4 in absurd cc
-route_object objects e (body.Rif on) p g h = let is = (mapped thing.Rif (base_on objects on) _ h).2 in absurd cc
-route_object objects e (body.OwnAddress ip) p g h = let is = same_Some _ _ h in absurd cc
-route_object objects e (body.Neighbor r ip mac) p g h = let is = (mapped (λ z. thing.Neighbor z mac) (hop_on objects r ip) _ h).2 in absurd cc
-route_object objects e (body.NextHop r ip) p g h = let is = (mapped thing.NextHop (hop_on objects r ip) _ h).2 in absurd cc
-route_object objects (entry.Oid r) body.Group p g h = let is = (mapped thing.Group (hops_at objects r) _ h).2 in absurd cc
-route_object objects (entry.Own ip) body.Group p g h = absurd cc
-route_object objects (entry.Neigh r ip) body.Group p g h = absurd cc
-route_object objects (entry.Route q) body.Group p g h = absurd cc
-route_object objects e (body.GroupMember r n weight) p g h = let is = (both_mapped thing.GroupMember (hops_at objects r) (whop_at objects n weight) _ h).4 in absurd cc
+route_object : (objects : Objects) (e : Entry Rid) (b : Body Rid) (v : Vrf) (p : Prefix) (g : Goal) → thing_of objects (e, b) ≡ Some (thing.Route v p g) → IsRoute objects b v p g
+route_object objects e (body.Route vr q t) v p g h =
+    let m = both_mapped (λ z u. thing.Route z q u) (router_at objects vr) (goal_by (hops_at objects) objects t) (thing.Route v p g) h in
+    let parts = route_parts m.0 v q p m.1 g m.4 in
+    record { vr = vr; to = t; body_is = ap (λ z. body.Route vr z t) parts.0; points = m.3 ∙ ap Some parts.1 }
+route_object objects e (body.Port lanes speed mtu up) v p g h = let is = same_Some _ _ h in absurd cc
+route_object objects e (body.Vlan n) v p g h = let is = same_Some _ _ h in absurd cc
+route_object objects e (body.VirtualRouter n) v p g h = let is = same_Some _ _ h in absurd cc
+route_object objects e (body.BridgePort port) v p g h = let is = (mapped thing.BridgePort (port_at objects port) _ h).2 in absurd cc
+route_object objects e (body.VlanMember n b t) v p g h = let is = (both_mapped (λ x y. thing.VlanMember x y t) (vlan_at objects n) (bridge_port_at objects b) _ h).4 in absurd cc
+route_object objects e (body.Rif vr on) v p g h = let is = (both_mapped thing.Rif (base_on objects on) (router_at objects vr) _ h).4 in absurd cc
+route_object objects e (body.OwnAddress vr ip) v p g h = let is = (mapped (λ z. thing.Own z ip) (router_at objects vr) _ h).2 in absurd cc
+route_object objects e (body.Neighbor r ip mac) v p g h = let is = (mapped (λ z. thing.Neighbor z mac) (hop_on objects r ip) _ h).2 in absurd cc
+route_object objects e (body.NextHop r ip) v p g h = let is = (mapped thing.NextHop (hop_on objects r ip) _ h).2 in absurd cc
+route_object objects (entry.Oid r) body.Group v p g h = let is = (mapped thing.Group (hops_at objects r) _ h).2 in absurd cc
+route_object objects (entry.Own w ip) body.Group v p g h = absurd cc
+route_object objects (entry.Neigh r ip) body.Group v p g h = absurd cc
+route_object objects (entry.Route w q) body.Group v p g h = absurd cc
+route_object objects e (body.GroupMember r n x) v p g h = let is = (both_mapped thing.GroupMember (hops_at objects r) (whop_at objects n x) _ h).4 in absurd cc
 
 -- ---- the Ethernet address of a hop
 
@@ -170,7 +173,7 @@ module _ (made : ℕ) (objects : Objects) (whole : IsWhole made objects) (have :
       let o = object-of_thing objects objects (Some t) (those_in t (named objects) h) in
       (o.0, o.1, found-in objects o.0 o.1 whole.sorted o.2, sym o.3)
 
-  stands : (t : Thing) → IsObject t → IsIn t stand
+  pub stands : (t : Thing) → IsObject t → IsIn t stand
   stands t (e, b, found, is) =
       let o = in-found objects e b found in
       let at : IsIn (e, b) objects = subst (λ z. IsIn (z, b) objects) (sym (entry-exact e o.0 o.1)) o.2 in
@@ -193,8 +196,8 @@ module _ (made : ℕ) (objects : Objects) (whole : IsWhole made objects) (have :
           let parts = neighs r s ip other is in
           (mac, (entry.Neigh r ip, body.Neighbor s other mac, found, ap (option_map (λ z. thing.Neighbor z mac)) (ap₂ (hop_on objects) (sym parts.0) (sym parts.1) ∙ at)))
       of (body.Port lanes speed mtu up) found (n, le, same) = absurd (false≢true same)
-      of (body.OwnAddress x) found (n, le, same) = absurd (false≢true same)
-      of (body.Route p t) found (n, le, same) = absurd (false≢true same)
+      of (body.OwnAddress v x) found (n, le, same) = absurd (false≢true same)
+      of (body.Route v p t) found (n, le, same) = absurd (false≢true same)
       of _ found (n, le, same) = absurd (false≢true same)
 
   neighbor : (hop : Hop) → IsNamed objects hop → (mac : Mac) × IsObject (thing.Neighbor hop mac)
@@ -204,22 +207,22 @@ module _ (made : ℕ) (objects : Objects) (whole : IsWhole made objects) (have :
       neighbor_by f.0 f.1 hop (body_at objects (entry.Neigh f.0 f.1)) f.3 refl (and_parts _ _ well).0
 
   module _ (prefixes : HavePrefixes objects) where
-    proper : (p : Prefix) (g : Goal) → IsIn (thing.Route p g) stand → IsProperPrefix p
-    proper p g h =
-        let o = object (thing.Route p g) h in
-        let is = route_object objects o.0 o.1 p g o.3 in
+    proper : (v : Vrf) (p : Prefix) (g : Goal) → IsIn (thing.Route v p g) stand → IsProperPrefix p
+    proper v p g h =
+        let o = object (thing.Route v p g) h in
+        let is = route_object objects o.0 o.1 v p g o.3 in
         subst HasPrefix is.body_is (prefixes.each o.0 o.1 o.2)
 
-    goal_of : (p : Prefix) (g : Goal) → IsIn (thing.Route p g) stand → AreGoalHops objects g
-    goal_of p g h = let o = object (thing.Route p g) h in let is = route_object objects o.0 o.1 p g o.3 in goal_hops objects is.to g is.points
+    goal_of : (v : Vrf) (p : Prefix) (g : Goal) → IsIn (thing.Route v p g) stand → AreGoalHops objects g
+    goal_of v p g h = let o = object (thing.Route v p g) h in let is = route_object objects o.0 o.1 v p g o.3 in goal_hops objects is.to g is.points
 
-    route_goals : (p : Prefix) (g h : Goal) → thing.Route p g ≡ thing.Route p h → g ≡ h
-    route_goals p g h e = cc
+    route_goals : (v : Vrf) (p : Prefix) (g h : Goal) → thing.Route v p g ≡ thing.Route v p h → g ≡ h
+    route_goals v p g h e = cc
 
     routes : AreRoutes stand
     routes = record {
       proper = proper;
-      one = λ p g h x y. route_goals p g h (one_of (thing.Route p g) (thing.Route p h) (object _ x) (object _ y) refl refl);
+      one = λ v p g h x y. route_goals v p g h (one_of (thing.Route v p g) (thing.Route v p h) (object _ x) (object _ y) refl refl);
     }
 
     module _ (others : List Thing) (same : AreSame stand others) where
@@ -242,9 +245,9 @@ module _ (made : ℕ) (objects : Objects) (whole : IsWhole made objects) (have :
 
       reached_route : (a : Packet) (o : Option (Prefix × Goal)) → best_route stand a ≡ o → HopsAreReached others (decide_route o)
       reached_route a None e = tt
-      reached_route a (Some r) e = reached_by r.1 (goal_of r.0 r.1 (best_in a r (subst (IsAnswer stand a) e (answer_is stand a))))
+      reached_route a (Some r) e = reached_by r.1 (goal_of a.vrf r.0 r.1 (best_in a r (subst (IsAnswer stand a) e (answer_is stand a))))
         where
-          best_in : (a : Packet) (r : Prefix × Goal) → IsBest stand a r.0 r.1 → IsIn (thing.Route r.0 r.1) stand
+          best_in : (a : Packet) (r : Prefix × Goal) → IsBest stand a r.0 r.1 → IsIn (thing.Route a.vrf r.0 r.1) stand
           best_in a r best = best.here
 
       reached_own : (a : Packet) (own : Bool) → HopsAreReached others (if own then decision.Cpu else decide_route (best_route stand a))
@@ -253,10 +256,10 @@ module _ (made : ℕ) (objects : Objects) (whole : IsWhole made objects) (have :
 
       alike : (a : Packet) → DecideAlike others stand a
       alike a = record {
-        own = same.back (thing.Own a.to);
-        own_back = same.into (thing.Own a.to);
-        routes = λ p g c h. same.back (thing.Route p g) h;
-        routes_back = λ p g c h. same.into (thing.Route p g) h;
+        own = same.back (thing.Own a.vrf a.to);
+        own_back = same.into (thing.Own a.vrf a.to);
+        routes = λ p g c h. same.back (thing.Route a.vrf p g) h;
+        routes_back = λ p g c h. same.into (thing.Route a.vrf p g) h;
       }
 
       -- a packet is decided alike in whatever order the things are taken

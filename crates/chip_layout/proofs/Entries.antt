@@ -1,7 +1,9 @@
 -- the entries of names, and what refers to them
-use Rattle.std.proofs.Common.{◌≡◌, ◌⊎◌, inl, inr, Bool, true, false, List, [], ◌∷◌, Some, refl, sym, ap, ap₂, ◌∙◌, subst}
+use Rattle.std.proofs.Common.{◌≡◌, ◌⊎◌, inl, inr, Bool, true, false, List, [], ◌∷◌, Option, None, Some, refl, sym, ap, ap₂, ◌∙◌, subst}
 use Rattle.std.specs.List.{list_all, list_any}
 use Rattle.std.proofs.lemmas.Bool.{and_from, eq-eqb, false≢true, or_cases}
+use Rattle.swss_types.specs.declared.vrf.Vrf.{Vrf}
+use Rattle.swss_types.specs.declared.vrf.Vrf.TheVariants as vrf
 use Rattle.sai_types.specs.declared.ids.Rid.{Rid}
 use Rattle.sai_types.specs.declared.hop.Base.{Base}
 use Rattle.sai_types.specs.declared.hop.Base.TheVariants as base
@@ -16,22 +18,28 @@ use Rattle.sai_types.specs.After.{entry_of}
 use Rattle.sai_types.specs.Alike.{IsIn}
 use Rattle.sai_types.specs.Made.{same_entry}
 use Rattle.sai_types.specs.Names as name
-use Rattle.sai_types.specs.Names.{ThingName, Refers, goal_names, name_of, name_kind, thing_references}
+use Rattle.sai_types.specs.Names.{ThingName, Refers, goal_names, name_of, name_kind, thing_references, with_router}
 use Rattle.sai_types.specs.Objects.{Objects, body_at, kind_of, level}
-use Rattle.sai_types.specs.References.{Reference, is_meant, references, refers_to, refers_well, stands, target_references}
+use Rattle.sai_types.specs.References.{Reference, beside_router, is_meant, references, refers_to, refers_well, stands, target_references}
 use Rattle.sai_types.proofs.Found.{same-refl}
-use Rattle.chip_layout.specs.Bodies.{IsBody, IsAt, body_with, first_name, goal_name, is_numbered, second_name, to_with}
+use Rattle.chip_layout.specs.Bodies.{IsBody, IsAt, body_with, first_name, goal_name, is_numbered, router_name, second_name, to_with, vr_with}
 use Rattle.chip_layout.specs.Layout.{Has, IsLaidOut, Layout, RefersWell, has_number}
 use Rattle.chip_layout.proofs.Bodies.{kind-body}
 use Rattle.sai_types.proofs.Exact.{entry-exact}
-use Rattle.sai_types.proofs.Things.{neighbors, rifs}
+use Rattle.sai_types.proofs.Things.{neighbors, owns, rifs, routers, same_route}
+
+-- a virtual router has this identifier, and the default one none
+abbrev pub IsRouter : {I : Type 0} → (ThingName → I → Type 0) → Vrf → Option I → Type 0
+IsRouter at vrf.Default None = Unit {0}
+IsRouter at (vrf.Named label) (Some r) = at (name.VirtualRouter label) r
+IsRouter at _ _ = ⊥
 
 -- an entry that is a name's, where names have identifiers
 abbrev pub IsEntry : {I : Type 0} → (ThingName → I → Type 0) → ThingName → Entry I → Type 0
 IsEntry at k (entry.Oid i) = (is_numbered (name_kind k) ≡ true) × at k i
-IsEntry at k (entry.Own ip) = k ≡ name.Own ip
+IsEntry at k (entry.Own vr ip) = (v : Vrf) × (k ≡ name.Own v ip) × IsRouter at v vr
 IsEntry at k (entry.Neigh r ip) = (on : Base) × (k ≡ name.Neighbor (record { on = on; ip = ip })) × at (name.Rif on) r
-IsEntry at k (entry.Route p) = k ≡ name.Route p
+IsEntry at k (entry.Route vr p) = (v : Vrf) × (k ≡ name.Route v p) × IsRouter at v vr
 
 -- the references are to these names, one after another
 abbrev pub AreTo : {I : Type 0} → (ThingName → I → Type 0) → List ThingName → List (Reference I) → Type 0
@@ -46,35 +54,44 @@ module _ {I : Type 0} (at : ThingName → I → Type 0) where
   goal-refers (goal.Via hop) i x = ((refl, (refl, x)), tt)
   goal-refers (goal.Group hops) i x = ((refl, (refl, x)), tt)
 
+  with_router_to : (v : Vrf) (j : I) (ks : List ThingName) (rs : List (Reference I)) → IsAt at (router_name v) j → AreTo at ks rs → AreTo at (with_router v ks) (beside_router (vr_with v j) rs)
+  with_router_to vrf.Default j ks rs x to = to
+  with_router_to (vrf.Named label) j ks rs x to = ((refl, (refl, x)), to)
+
+  pub router-is : (v : Vrf) (j : I) → IsAt at (router_name v) j → IsRouter at v (vr_with v j)
+  router-is vrf.Default j x = tt
+  router-is (vrf.Named label) j x = x
+
   refers_with : (t : Thing) (i j : I) → IsAt at (first_name t) i → IsAt at (second_name t) j → AreTo at (thing_references t) (references (body_with t i j))
   refers_with (thing.BridgePort lane) i j x y = ((refl, (refl, x)), tt)
   refers_with (thing.VlanMember vlan lane tagging) i j x y = ((refl, (refl, x)), ((refl, (refl, y)), tt))
-  refers_with (thing.Rif (base.Port lane)) i j x y = ((refl, (refl, x)), tt)
-  refers_with (thing.Rif (base.Vlan vlan)) i j x y = ((refl, (refl, x)), tt)
+  refers_with (thing.Rif (base.Port lane) v) i j x y = with_router_to v j _ _ y ((refl, (refl, x)), tt)
+  refers_with (thing.Rif (base.Vlan vlan) v) i j x y = with_router_to v j _ _ y ((refl, (refl, x)), tt)
+  refers_with (thing.Own v ip) i j x y = with_router_to v j [] [] y tt
   refers_with (thing.Neighbor hop mac) i j x y = ((refl, (refl, x)), tt)
   refers_with (thing.NextHop hop) i j x y = ((refl, (refl, x)), ((refl, (hop.on, refl, x)), tt))
   refers_with (thing.GroupMember hops hop) i j x y = ((refl, (refl, x)), ((refl, (refl, y)), tt))
-  refers_with (thing.Route prefix goal) i j x y = goal-refers goal i x
+  refers_with (thing.Route v prefix goal) i j x y = with_router_to v j _ _ y (goal-refers goal i x)
   refers_with _ i j x y = tt
 
   -- the references of a thing's body are to the names that the thing refers to
   pub body-refers : (t : Thing) (b : Body I) → IsBody at t b → AreTo at (thing_references t) (references b)
   body-refers t b x = subst (λ z. AreTo at (thing_references t) (references z)) (sym x.body_is) (refers_with t x.first x.second x.first_at x.second_at)
 
-entry_with : (at : ThingName → Rid → Type 0) (i : Rid) (t : Thing) (m n : Rid) → at (name_of t) i → IsAt at (first_name t) m → IsEntry at (name_of t) (entry_of i.0 (body_with t m n))
-entry_with at i (thing.Own ip) m n h x = refl
-entry_with at i (thing.Neighbor hop mac) m n h x = (hop.on, refl, x)
-entry_with at i (thing.Route prefix goal) m n h x = refl
-entry_with at i _ m n h x = (refl, h)
+entry_with : (at : ThingName → Rid → Type 0) (i : Rid) (t : Thing) (m n : Rid) → at (name_of t) i → IsAt at (first_name t) m → IsAt at (second_name t) n → IsEntry at (name_of t) (entry_of i.0 (body_with t m n))
+entry_with at i (thing.Own v ip) m n h x y = (v, refl, router-is at v n y)
+entry_with at i (thing.Neighbor hop mac) m n h x y = (hop.on, refl, x)
+entry_with at i (thing.Route v prefix goal) m n h x y = (v, refl, router-is at v n y)
+entry_with at i _ m n h x y = (refl, h)
 
 no_key : (k l : ThingName) → is_numbered (name_kind k) ≡ true → k ≡ l → is_numbered (name_kind l) ≡ false → ⊥
 no_key k l h is not = false≢true (sym not ∙ ap (λ n. is_numbered (name_kind n)) (sym is) ∙ h)
 
 meant : (r : Reference Rid) (d : Body Rid) → kind_of d ≡ r.0 → is_meant r (Some d) ≡ true
 meant (k, entry.Oid i) d e = eq-eqb (level (kind_of d)) (level k) (ap level e)
-meant (k, entry.Own ip) d e = refl
+meant (k, entry.Own vr ip) d e = refl
 meant (k, entry.Neigh r ip) d e = refl
-meant (k, entry.Route p) d e = refl
+meant (k, entry.Route vr p) d e = refl
 
 module _ (layout : Layout Rid) (objects : Objects) (laid : IsLaidOut layout objects) where
   -- a name has one identifier
@@ -90,37 +107,58 @@ module _ (layout : Layout Rid) (objects : Objects) (laid : IsLaidOut layout obje
 
   -- the entry of a thing's object is its name's
   pub entry-named : (i : Rid) (t : Thing) (b : Body Rid) → layout i t → IsBody (Has layout) t b → IsEntry (Has layout) (name_of t) (entry_of i.0 b)
-  entry-named i t b h x = subst (λ z. IsEntry (Has layout) (name_of t) (entry_of i.0 z)) (sym x.body_is) (entry_with (Has layout) i t x.first x.second (t, h, refl) x.first_at)
+  entry-named i t b h x = subst (λ z. IsEntry (Has layout) (name_of t) (entry_of i.0 z)) (sym x.body_is) (entry_with (Has layout) i t x.first x.second (t, h, refl) x.first_at x.second_at)
+
+  -- a virtual router has one identifier, and an identifier is that of one
+  router-one : (v w : Vrf) (vr : Option Rid) → IsRouter (Has layout) v vr → IsRouter (Has layout) w vr → v ≡ w
+  router-one vrf.Default vrf.Default None x y = refl
+  router-one (vrf.Named m) (vrf.Named n) (Some r) x y = ap vrf.Named (routers m n (one-name (name.VirtualRouter m) (name.VirtualRouter n) r refl refl x y))
+  router-one vrf.Default _ (Some r) x y = absurd x
+  router-one (vrf.Named m) _ None x y = absurd x
+  router-one _ vrf.Default (Some r) x y = absurd y
+  router-one _ (vrf.Named n) None x y = absurd y
+
+  router-id : (v : Vrf) (a b : Option Rid) → IsRouter (Has layout) v a → IsRouter (Has layout) v b → a ≡ b
+  router-id vrf.Default None None x y = refl
+  router-id (vrf.Named m) (Some r) (Some s) x y = ap Some (one-id (name.VirtualRouter m) r s x y)
+  router-id vrf.Default (Some r) _ x y = absurd x
+  router-id vrf.Default None (Some s) x y = absurd y
+  router-id (vrf.Named m) None _ x y = absurd x
+  router-id (vrf.Named m) (Some r) None x y = absurd y
 
   -- an entry is one name's
   pub name-entered : (k l : ThingName) (e : Entry Rid) → IsEntry (Has layout) k e → IsEntry (Has layout) l e → k ≡ l
   name-entered k l (entry.Oid i) x y = one-name k l i x.0 y.0 x.1 y.1
-  name-entered k l (entry.Own ip) x y = x ∙ sym y
+  name-entered k l (entry.Own vr ip) x y = x.1 ∙ ap (λ v. name.Own v ip) (router-one x.0 y.0 vr x.2 y.2) ∙ sym y.1
   name-entered k l (entry.Neigh r ip) x y =
       let bases = rifs x.0 y.0 (one-name (name.Rif x.0) (name.Rif y.0) r refl refl x.2 y.2) in
       x.1 ∙ ap (λ b. name.Neighbor (record { on = b; ip = ip })) bases ∙ sym y.1
-  name-entered k l (entry.Route p) x y = x ∙ sym y
+  name-entered k l (entry.Route vr p) x y = x.1 ∙ ap (λ v. name.Route v p) (router-one x.0 y.0 vr x.2 y.2) ∙ sym y.1
 
   -- a name has one entry
   pub entry-one : (k : ThingName) (e f : Entry Rid) → IsEntry (Has layout) k e → IsEntry (Has layout) k f → e ≡ f
   entry-one k (entry.Oid i) (entry.Oid j) x y = ap entry.Oid (one-id k i j x.1 y.1)
-  entry-one k (entry.Own a) (entry.Own b) x y = let is = sym x ∙ y in cc
+  entry-one k (entry.Own v a) (entry.Own w b) x y =
+      let keys = owns x.0 y.0 a b (sym x.1 ∙ y.1) in
+      ap₂ (λ z u. entry.Own z u) (router-id y.0 v w (subst (λ z. IsRouter (Has layout) z v) keys.0 x.2) y.2) keys.1
   entry-one k (entry.Neigh r a) (entry.Neigh s b) x y =
       let hops = neighbors (record { on = x.0; ip = a }) (record { on = y.0; ip = b }) (sym x.1 ∙ y.1) in
       ap₂ (λ z w. entry.Neigh z w) (one-id (name.Rif y.0) r s (subst (λ z. Has layout (name.Rif z) r) (ap (λ h. h.on) hops) x.2) y.2) (ap (λ h. h.ip) hops)
-  entry-one k (entry.Route p) (entry.Route q) x y = let is = sym x ∙ y in cc
-  entry-one k (entry.Oid i) (entry.Own b) x y = absurd (no_key k _ x.0 y refl)
+  entry-one k (entry.Route v p) (entry.Route w q) x y =
+      let keys = same_route x.0 y.0 p q (sym x.1 ∙ y.1) in
+      ap₂ (λ z u. entry.Route z u) (router-id y.0 v w (subst (λ z. IsRouter (Has layout) z v) keys.0 x.2) y.2) keys.1
+  entry-one k (entry.Oid i) (entry.Own w b) x y = absurd (no_key k _ x.0 y.1 refl)
   entry-one k (entry.Oid i) (entry.Neigh s b) x y = absurd (no_key k _ x.0 y.1 refl)
-  entry-one k (entry.Oid i) (entry.Route q) x y = absurd (no_key k _ x.0 y refl)
-  entry-one k (entry.Own a) (entry.Oid j) x y = absurd (no_key k _ y.0 x refl)
+  entry-one k (entry.Oid i) (entry.Route w q) x y = absurd (no_key k _ x.0 y.1 refl)
+  entry-one k (entry.Own v a) (entry.Oid j) x y = absurd (no_key k _ y.0 x.1 refl)
   entry-one k (entry.Neigh r a) (entry.Oid j) x y = absurd (no_key k _ y.0 x.1 refl)
-  entry-one k (entry.Route p) (entry.Oid j) x y = absurd (no_key k _ y.0 x refl)
-  entry-one k (entry.Own a) (entry.Neigh s b) x y = let is = sym x ∙ y.1 in absurd cc
-  entry-one k (entry.Own a) (entry.Route q) x y = let is = sym x ∙ y in absurd cc
-  entry-one k (entry.Neigh r a) (entry.Own b) x y = let is = sym x.1 ∙ y in absurd cc
-  entry-one k (entry.Neigh r a) (entry.Route q) x y = let is = sym x.1 ∙ y in absurd cc
-  entry-one k (entry.Route p) (entry.Own b) x y = let is = sym x ∙ y in absurd cc
-  entry-one k (entry.Route p) (entry.Neigh s b) x y = let is = sym x ∙ y.1 in absurd cc
+  entry-one k (entry.Route v p) (entry.Oid j) x y = absurd (no_key k _ y.0 x.1 refl)
+  entry-one k (entry.Own v a) (entry.Neigh s b) x y = let is = sym x.1 ∙ y.1 in absurd cc
+  entry-one k (entry.Own v a) (entry.Route w q) x y = let is = sym x.1 ∙ y.1 in absurd cc
+  entry-one k (entry.Neigh r a) (entry.Own w b) x y = let is = sym x.1 ∙ y.1 in absurd cc
+  entry-one k (entry.Neigh r a) (entry.Route w q) x y = let is = sym x.1 ∙ y.1 in absurd cc
+  entry-one k (entry.Route v p) (entry.Own w b) x y = let is = sym x.1 ∙ y.1 in absurd cc
+  entry-one k (entry.Route v p) (entry.Neigh s b) x y = let is = sym x.1 ∙ y.1 in absurd cc
 
   -- two things with one entry have one name
   pub one-entry : (i j : Rid) (t u : Thing) (x y : Body Rid) → layout i t → layout j u → IsBody (Has layout) t x → IsBody (Has layout) u y → same_entry (entry_of i.0 x) (entry_of j.0 y) ≡ true → name_of t ≡ name_of u

@@ -7,9 +7,12 @@ use Rattle.std.proofs.lemmas.Bool.{eq-eqb, false≢true}
 use Rattle.std.proofs.lemmas.List.{length-map}
 use Rattle.std.proofs.lemmas.List.Sums.{sum_by-cons}
 use Rattle.swss_types.specs.declared.address.Ip.{Ip}
+use Rattle.swss_types.specs.declared.address.Prefix.{Prefix}
+use Rattle.std.proofs.lemmas.Option.{same_Some}
 use Rattle.sai_types.specs.declared.answer.ChipAnswer.TheVariants.{BadReference, Exists, Full, InUse, NotFound}
 use Rattle.sai_types.specs.declared.ids.Rid.{Rid}
 use Rattle.sai_types.specs.declared.kind.Kind.{Kind}
+use Rattle.sai_types.specs.declared.kind.Kind.TheVariants as kind
 use Rattle.sai_types.specs.declared.body.Attr.{Attr}
 use Rattle.sai_types.specs.declared.body.Attr.TheVariants as attr
 use Rattle.sai_types.specs.declared.body.Body.{Body}
@@ -25,8 +28,8 @@ use Rattle.sai_types.specs.declared.body.To.TheVariants as to
 use Rattle.sai_types.specs.Alike.{IsIn}
 use Rattle.sai_types.specs.Made.{AreSorted, same_entry}
 use Rattle.sai_types.specs.Objects.{Objects, body_at, is_of, kind_of, level, used}
-use Rattle.sai_types.specs.References.{Reference, attr_references, attr_refers_well, is_meant, references, refers_to, refers_well, stands, target_references}
-use Rattle.sai_types.specs.Refusal.{capacity_of, clash, first_refusal, has_attr, refusal_of, remove_refusal, same_base, same_id, same_ip, set_refusal}
+use Rattle.sai_types.specs.References.{Reference, attr_references, attr_refers_well, beside_router, is_meant, references, refers_to, refers_well, stands, target_references}
+use Rattle.sai_types.specs.Refusal.{capacity_of, clash, first_refusal, has_attr, refusal_of, remove_refusal, same_base, same_id, same_ip, same_prefix, same_router, set_refusal}
 use Rattle.sai_types.proofs.Exact.{entry-exact, id-exact}
 use Rattle.sai_types.proofs.Found.{same-refl}
 use Rattle.sai_types.proofs.Listed.{apart-behind, found-in, in-found, sorted-behind}
@@ -39,6 +42,12 @@ oids r s h = cc
 
 pub neighs : (r s : Rid) (a b : Ip) → entry.Neigh r a ≡ entry.Neigh s b → (r ≡ s) × (a ≡ b)
 neighs r s a b h = (cc, cc)
+
+owns : (v w : Option Rid) (a b : Ip) → entry.Own v a ≡ entry.Own w b → (v ≡ w) × (a ≡ b)
+owns v w a b h = (cc, cc)
+
+routes : (v w : Option Rid) (p q : Prefix) → entry.Route v p ≡ entry.Route w q → (v ≡ w) × (p ≡ q)
+routes v w p q h = (cc, cc)
 
 -- ---- objects that pass a test
 
@@ -115,7 +124,7 @@ has_attr-renamed : (f : Rid → Rid) (b : Body Rid) (a : Attr Rid) → has_attr 
 has_attr-renamed f (body.Port lanes speed mtu up) (attr.Speed s) = refl
 has_attr-renamed f (body.VlanMember vlan bridge_port tagging) (attr.Tagging t) = refl
 has_attr-renamed f (body.Neighbor rif ip mac) (attr.Mac m) = refl
-has_attr-renamed f (body.Route prefix x) (attr.To y) = refl
+has_attr-renamed f (body.Route vr prefix x) (attr.To y) = refl
 has_attr-renamed f _ _ = refl
 
 module _ (f : Rid → Rid) where
@@ -128,10 +137,15 @@ module _ (f : Rid → Rid) where
   targets_renamed (to.NextHop n) = refl
   targets_renamed (to.Group g) = refl
 
+  router_renamed : (vr : Option Rid) (rs qs : List (Reference Rid)) → qs ≡ map reference_renamed rs → beside_router (option_map f vr) qs ≡ map reference_renamed (beside_router vr rs)
+  router_renamed None rs qs h = h
+  router_renamed (Some r) rs qs h = ap (λ z. (kind.VirtualRouter, entry.Oid (f r)) ∷ z) h
+
   references-renamed : (b : Body Rid) → references (body_renamed f b) ≡ map reference_renamed (references b)
-  references-renamed (body.Rif (on.Port p)) = refl
-  references-renamed (body.Rif (on.Vlan v)) = refl
-  references-renamed (body.Route prefix t) = targets_renamed t
+  references-renamed (body.Rif vr (on.Port p)) = router_renamed vr _ _ refl
+  references-renamed (body.Rif vr (on.Vlan v)) = router_renamed vr _ _ refl
+  references-renamed (body.OwnAddress vr ip) = router_renamed vr [] [] refl
+  references-renamed (body.Route vr prefix t) = router_renamed vr _ _ (targets_renamed t)
   references-renamed (body.Port lanes speed mtu up) = refl
   references-renamed _ = refl
 
@@ -143,19 +157,25 @@ module _ (f : Rid → Rid) where
   meant-renamed : (k : Kind) (e : Entry Rid) (o : Option (Body Rid)) → is_meant (k, entry_renamed f e) (option_map (body_renamed f) o) ≡ is_meant (k, e) o
   meant-renamed k (entry.Oid i) None = refl
   meant-renamed k (entry.Oid i) (Some b) = ap (λ z. level z == level k) (kind-renamed f b)
-  meant-renamed k (entry.Own ip) None = refl
-  meant-renamed k (entry.Own ip) (Some b) = refl
+  meant-renamed k (entry.Own vr ip) None = refl
+  meant-renamed k (entry.Own vr ip) (Some b) = refl
   meant-renamed k (entry.Neigh r ip) None = refl
   meant-renamed k (entry.Neigh r ip) (Some b) = refl
-  meant-renamed k (entry.Route p) None = refl
-  meant-renamed k (entry.Route p) (Some b) = refl
+  meant-renamed k (entry.Route vr p) None = refl
+  meant-renamed k (entry.Route vr p) (Some b) = refl
 
   module _ (objects others : Objects) (are : AreRenamed f objects others) where
+    router_one : (v w : Option Rid) → option_map f v ≡ option_map f w → v ≡ w
+    router_one None None h = refl
+    router_one (Some a) (Some b) h = ap Some (are.one a b (same_Some (f a) (f b) h))
+    router_one None (Some b) h = absurd cc
+    router_one (Some a) None h = absurd cc
+
     entry_one : (e d : Entry Rid) → entry_renamed f e ≡ entry_renamed f d → e ≡ d
     entry_one (entry.Oid i) (entry.Oid j) h = ap entry.Oid (are.one i j (oids (f i) (f j) h))
-    entry_one (entry.Own a) (entry.Own b) h = h
+    entry_one (entry.Own v a) (entry.Own w b) h = let parts = owns (option_map f v) (option_map f w) a b h in ap₂ (λ x y. entry.Own x y) (router_one v w parts.0) parts.1
     entry_one (entry.Neigh r a) (entry.Neigh s b) h = let parts = neighs (f r) (f s) a b h in ap₂ (λ x y. entry.Neigh x y) (are.one r s parts.0) parts.1
-    entry_one (entry.Route p) (entry.Route q) h = h
+    entry_one (entry.Route v p) (entry.Route w q) h = let parts = routes (option_map f v) (option_map f w) p q h in ap₂ (λ x y. entry.Route x y) (router_one v w parts.0) parts.1
     entry_one _ _ h = absurd cc
 
     found : (e : Entry Rid) → body_at others (entry_renamed f e) ≡ option_map (body_renamed f) (body_at objects e)
@@ -187,14 +207,21 @@ module _ (f : Rid → Rid) where
     base_same (on.Port a) (on.Vlan b) = refl
     base_same (on.Vlan a) (on.Port b) = refl
 
+    router_same : (v w : Option Rid) → same_router (option_map f v) (option_map f w) ≡ same_router v w
+    router_same None None = refl
+    router_same None (Some b) = refl
+    router_same (Some a) None = refl
+    router_same (Some a) (Some b) = id_same a b
+
     clash_same : (b d : Body Rid) → clash (body_renamed f b) (body_renamed f d) ≡ clash b d
     clash_same (body.Port lanes speed mtu up) (body.Port others s m u) = refl
     clash_same (body.Vlan v) (body.Vlan w) = refl
-    clash_same (body.OwnAddress a) (body.OwnAddress b) = refl
-    clash_same (body.Route p t) (body.Route q u) = refl
+    clash_same (body.VirtualRouter m) (body.VirtualRouter n) = refl
+    clash_same (body.OwnAddress v a) (body.OwnAddress w b) = ap (λ x. x && same_ip a b) (router_same v w)
+    clash_same (body.Route v p t) (body.Route w q u) = ap (λ x. x && same_prefix p q) (router_same v w)
     clash_same (body.BridgePort p) (body.BridgePort q) = id_same p q
     clash_same (body.VlanMember v p t) (body.VlanMember w q u) = ap₂ (λ x y. x && y) (id_same v w) (id_same p q)
-    clash_same (body.Rif a) (body.Rif b) = base_same a b
+    clash_same (body.Rif v a) (body.Rif w b) = base_same a b
     clash_same (body.Neighbor r ip mac) (body.Neighbor s other mac') = ap (λ x. x && same_ip ip other) (id_same r s)
     clash_same (body.NextHop r ip) (body.NextHop s other) = ap (λ x. x && same_ip ip other) (id_same r s)
     clash_same (body.GroupMember g n v) (body.GroupMember h m w) = ap₂ (λ x y. x && y) (id_same g h) (id_same n m)

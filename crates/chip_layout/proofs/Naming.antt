@@ -3,6 +3,9 @@ use Rattle.std.proofs.Common.{◌≡◌, ◌⊎◌, inl, inr, ℕ, Bool, true, f
 use Rattle.std.specs.BTreeSet.{insert_key}
 use Rattle.std.proofs.lemmas.Bool.{and_from, eq-eqb, false≢true}
 use Rattle.std.proofs.lemmas.Option.{same_Some}
+use Rattle.swss_types.specs.declared.vrf.Vrf.{Vrf}
+use Rattle.swss_types.specs.declared.vrf.Vrf.TheVariants as vrf
+use Rattle.swss_types.specs.declared.vrf.VrfName.{VrfName}
 use Rattle.sai_types.specs.declared.ids.Rid.{Rid}
 use Rattle.sai_types.specs.declared.hop.Base.{Base}
 use Rattle.sai_types.specs.declared.hop.Base.TheVariants as base
@@ -12,6 +15,7 @@ use Rattle.sai_types.specs.declared.body.Body.{Body}
 use Rattle.sai_types.specs.declared.body.Body.TheVariants as body
 use Rattle.sai_types.specs.declared.body.Entry.{Entry}
 use Rattle.sai_types.specs.declared.body.Entry.TheVariants as entry
+use Rattle.sai_types.specs.declared.thing.Goal.{Goal}
 use Rattle.sai_types.specs.declared.thing.Goal.TheVariants as goal
 use Rattle.sai_types.specs.declared.thing.Thing.{Thing}
 use Rattle.sai_types.specs.declared.thing.Thing.TheVariants as thing
@@ -20,14 +24,14 @@ use Rattle.sai_types.specs.Alike.{IsAlike, IsIn, IsOnceIn}
 use Rattle.sai_types.specs.Hop.{AreRisingHops, put_hop, whop_cmp}
 use Rattle.sai_types.specs.Made.{AreApart, IsWhole, same_entry}
 use Rattle.sai_types.specs.Objects.{Objects, body_at}
-use Rattle.sai_types.specs.Named.{both, bridge_port_at, bridge_port_of, first_lane, hop_on, hops_among, hops_at, named, next_hop_at, next_hop_of, port_at, body_port, rif_at, rif_of, thing_of, vlan_at, body_vlan, whop_at, with_member}
+use Rattle.sai_types.specs.Named.{both, bridge_port_at, bridge_port_of, first_lane, goal_by, hop_on, hops_among, hops_at, named, next_hop_at, next_hop_of, port_at, body_port, body_router, rif_at, rif_of, router_at, thing_of, vlan_at, body_vlan, whop_at, with_member}
 use Rattle.sai_types.specs.Refusal.{clash, same_id}
 use Rattle.sai_types.proofs.Found.{same-refl, same-symm, same-trans}
 use Rattle.sai_types.specs.Names as name
 use Rattle.sai_types.specs.Names.{ThingName, name_kind, name_of}
-use Rattle.sai_types.proofs.Things.{bridge_ports, group_members, groups, next_hops, ports, rifs, vlans}
+use Rattle.sai_types.proofs.Things.{bridge_ports, group_members, groups, next_hops, ports, rifs, routers, vlans}
 use Rattle.chip_layout.specs.Bodies.{first_name, second_name}
-use Rattle.chip_layout.specs.Bodies.{IsAt, IsBody, body_with}
+use Rattle.chip_layout.specs.Bodies.{IsAt, IsBody, body_with, goal_name, router_name, to_with, vr_with}
 use Rattle.chip_layout.specs.Layout.{Has, IsLaidOut, Layout, has_number, view_of}
 use Rattle.chip_layout.specs.Grouped.{AreGrouped}
 use Rattle.chip_layout.proofs.Bodies.{entry-body}
@@ -70,20 +74,28 @@ module _ (layout : Layout Rid) (objects : Objects) (laid : IsLaidOut layout obje
   vlan_named : (v : ℕ) (i : Rid) → Has layout (name.Vlan v) i → vlan_at objects i ≡ Some v
   vlan_named v i x = vlan_by x.0 i v x.1 x.2
 
+  router_by : (t : Thing) (i : Rid) (n : VrfName) → layout i t → name_of t ≡ name.VirtualRouter n → router_at objects (Some i) ≡ Some (vrf.Named n)
+  router_by (thing.VirtualRouter m) i n h e = ap (λ o. option_map vrf.Named (body_router o)) (found_at i (thing.VirtualRouter m) h refl).found ∙ ap (λ z. Some (vrf.Named z)) (routers m n e)
+  router_by _ i n h e = absurd cc
+
+  pub router_named : (v : Vrf) (j : Rid) → IsAt (Has layout) (router_name v) j → router_at objects (vr_with v j) ≡ Some v
+  router_named vrf.Default j x = refl
+  router_named (vrf.Named n) j x = router_by x.0 j n x.1 x.2
+
   bridge_port_by : (t : Thing) (i : Rid) (lane : ℕ) → layout i t → name_of t ≡ name.BridgePort lane → bridge_port_at objects i ≡ Some lane
   bridge_port_by (thing.BridgePort n) i lane h e =
       let f = found_at i (thing.BridgePort n) h refl in
       ap (bridge_port_of objects) f.found ∙ port_named n f.first f.first_at ∙ ap Some (bridge_ports n lane e)
   bridge_port_by _ i lane h e = absurd cc
 
-  base_named : (on : Base) (i : Rid) → IsAt (Has layout) (first_name (thing.Rif on)) i → rif_of objects (Some (body_with (thing.Rif on) i i)) ≡ Some on
-  base_named (base.Port lane) i x = ap (option_map base.Port) (port_named lane i x)
-  base_named (base.Vlan v) i x = ap (option_map base.Vlan) (vlan_named v i x)
+  base_named : (on : Base) (v : Vrf) (i j : Rid) → IsAt (Has layout) (first_name (thing.Rif on v)) i → rif_of objects (Some (body_with (thing.Rif on v) i j)) ≡ Some on
+  base_named (base.Port lane) v i j x = ap (option_map base.Port) (port_named lane i x)
+  base_named (base.Vlan n) v i j x = ap (option_map base.Vlan) (vlan_named n i x)
 
   pub rif_by : (t : Thing) (i : Rid) (on : Base) → layout i t → name_of t ≡ name.Rif on → rif_at objects i ≡ Some on
-  rif_by (thing.Rif b) i on h e =
-      let f = found_at i (thing.Rif b) h refl in
-      ap (rif_of objects) f.found ∙ base_named b f.first f.first_at ∙ ap Some (rifs b on e)
+  rif_by (thing.Rif b v) i on h e =
+      let f = found_at i (thing.Rif b v) h refl in
+      ap (rif_of objects) f.found ∙ base_named b v f.first f.second f.first_at ∙ ap Some (rifs b on e)
   rif_by _ i on h e = absurd cc
 
   pub hop_named : (hop : Hop) (r : Rid) → Has layout (name.Rif hop.on) r → hop_on objects r hop.ip ≡ Some hop
@@ -223,23 +235,26 @@ module _ (layout : Layout Rid) (objects : Objects) (laid : IsLaidOut layout obje
     both_named : {A B C : Type 0} (f : A → B → C) (o : Option A) (p : Option B) (a : A) (b : B) → o ≡ Some a → p ≡ Some b → both f o p ≡ Some (f a b)
     both_named f o p a b h i = ap₂ (both f) h i
 
+    goal_named : (g : Goal) (a : Rid) → IsAt (Has layout) (goal_name g) a → goal_by (hops_at objects) objects (to_with g a) ≡ Some g
+    goal_named goal.Drop a x = refl
+    goal_named (goal.Direct on) a x = ap (option_map goal.Direct) (rif_by x.0 a on x.1 x.2)
+    goal_named (goal.Via hop) a x = ap (option_map goal.Via) (next_hop_named hop a x)
+    goal_named (goal.Group hops) a x = ap (option_map goal.Group) (group_named hops a x)
+
     -- what stands for a thing is named so
     thing_named : (i : Rid) (t : Thing) (e : Entry Rid) (a c : Rid) → layout i t → IsAt (Has layout) (first_name t) a → IsAt (Has layout) (second_name t) c → same_entry e (entry_of i.0 (body_with t a c)) ≡ true → thing_of objects (e, body_with t a c) ≡ Some t
     thing_named i (thing.Port p) e a c h x y at = refl
     thing_named i (thing.Vlan v) e a c h x y at = refl
+    thing_named i (thing.VirtualRouter n) e a c h x y at = refl
     thing_named i (thing.BridgePort lane) e a c h x y at = ap (option_map thing.BridgePort) (port_named lane a x)
     thing_named i (thing.VlanMember v lane tagging) e a c h x y at = both_named (λ w p. thing.VlanMember w p tagging) _ _ v lane (vlan_named v a x) (bridge_port_by y.0 c lane y.1 y.2)
-    thing_named i (thing.Rif (base.Port lane)) e a c h x y at = ap (option_map thing.Rif) (base_named (base.Port lane) a x)
-    thing_named i (thing.Rif (base.Vlan v)) e a c h x y at = ap (option_map thing.Rif) (base_named (base.Vlan v) a x)
-    thing_named i (thing.Own ip) e a c h x y at = refl
+    thing_named i (thing.Rif on v) e a c h x y at = both_named thing.Rif _ _ on v (base_named on v a c x) (router_named v c y)
+    thing_named i (thing.Own v ip) e a c h x y at = ap (option_map (λ z. thing.Own z ip)) (router_named v c y)
     thing_named i (thing.Neighbor hop mac) e a c h x y at = ap (option_map (λ z. thing.Neighbor z mac)) (hop_named hop a x)
     thing_named i (thing.NextHop hop) e a c h x y at = ap (option_map thing.NextHop) (hop_named hop a x)
     thing_named i (thing.Group hops) e a c h x y at = ap (λ z. thing_of objects (z, body.Group)) (entry-exact e (entry.Oid i) at) ∙ ap (option_map thing.Group) (group_named hops i (thing.Group hops, h, refl))
     thing_named i (thing.GroupMember hops hop) e a c h x y at = both_named thing.GroupMember _ _ hops hop (group_named hops a x) (whop_named hop c y)
-    thing_named i (thing.Route prefix goal.Drop) e a c h x y at = refl
-    thing_named i (thing.Route prefix (goal.Direct on)) e a c h x y at = ap (λ o. option_map (thing.Route prefix) (option_map goal.Direct o)) (rif_by x.0 a on x.1 x.2)
-    thing_named i (thing.Route prefix (goal.Via hop)) e a c h x y at = ap (λ o. option_map (thing.Route prefix) (option_map goal.Via o)) (next_hop_named hop a x)
-    thing_named i (thing.Route prefix (goal.Group hops)) e a c h x y at = ap (λ o. option_map (thing.Route prefix) (option_map goal.Group o)) (group_named hops a x)
+    thing_named i (thing.Route v prefix g) e a c h x y at = both_named (λ z w. thing.Route z prefix w) _ _ v g (router_named v c y) (goal_named g a x)
 
     pub thing-laid : (i : Rid) (t : Thing) (e : Entry Rid) (b : Body Rid) → layout i t → IsBody (Has layout) t b → same_entry e (entry_of i.0 b) ≡ true → thing_of objects (e, b) ≡ Some t
     thing-laid i t e b h x at = ap (λ z. thing_of objects (e, z)) x.body_is ∙ thing_named i t e x.first x.second h x.first_at x.second_at (ap (λ z. same_entry e (entry_of i.0 z)) (sym x.body_is) ∙ at)

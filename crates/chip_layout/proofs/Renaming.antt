@@ -18,9 +18,9 @@ use Rattle.chip_layout.specs.Renamed.{AreRenamed, body_renamed, entry_renamed, t
 use Rattle.chip_layout.proofs.Shapes.{IsWithin, body-renamed, body-within, renamed}
 
 entry-renamed : (f : Rid → Rid) (i : Rid) (b : Body Rid) → entry_renamed f (entry_of i.0 b) ≡ entry_of (f i).0 (body_renamed f b)
-entry-renamed f i (body.OwnAddress ip) = refl
+entry-renamed f i (body.OwnAddress vr ip) = refl
 entry-renamed f i (body.Neighbor rif ip mac) = refl
-entry-renamed f i (body.Route prefix to) = refl
+entry-renamed f i (body.Route vr prefix to) = refl
 entry-renamed f i _ = refl
 
 in_renamed : (f : Rid → Rid) (things : List (Rid × Thing)) (i : Rid) (t : Thing) → IsIn (i, t) things → IsIn (f i, t) (things_renamed f things)
@@ -74,8 +74,8 @@ module _ (f : Rid → Rid) (things : List (Rid × Thing)) (objects others : Obje
   renamed-laid = record { stand = stand; tied = tied; one = one; ids = ids }
 
 pub has_renamed : {I J : Type 0} (f : I → J) (b : Body I) → has_id (body_renamed f b) ≡ has_id b
-has_renamed f (body.OwnAddress ip) = refl
+has_renamed f (body.OwnAddress vr ip) = refl
 has_renamed f (body.Neighbor i ip mac) = refl
-has_renamed f (body.Route p t) = refl
+has_renamed f (body.Route vr p t) = refl
 has_renamed f (body.Port l s m u) = refl
 has_renamed f _ = refl

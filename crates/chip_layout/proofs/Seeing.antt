@@ -1,9 +1,13 @@
 -- each whole chip is laid out by what it shows itself
-use Rattle.std.proofs.Common.{◌≡◌, inr, ℕ, Bool, true, false, ◌&&◌, List, Option, None, Some, option_map, refl, sym, ap, ap₂, ◌∙◌, subst}
+use Rattle.std.proofs.Common.{◌≡◌, inr, ℕ, Bool, true, false, ◌&&◌, List, [], Option, None, Some, option_map, refl, sym, ap, ap₂, ◌∙◌, subst}
+use Rattle.std.specs.List.{list_all}
 use Rattle.std.proofs.lemmas.Bool.{and_parts, eq-eqb, false≢true}
 use Rattle.std.proofs.lemmas.Option.{same_Some}
 use Rattle.swss_types.specs.declared.address.Ip.{Ip}
 use Rattle.swss_types.proofs.Truths.{true_not_false}
+use Rattle.swss_types.specs.declared.vrf.Vrf.{Vrf}
+use Rattle.swss_types.specs.declared.vrf.Vrf.TheVariants as vrf
+use Rattle.swss_types.specs.declared.vrf.VrfName.{VrfName}
 use Rattle.sai_types.specs.declared.ids.Rid.{Rid}
 use Rattle.sai_types.specs.declared.kind.Kind.TheVariants as kind
 use Rattle.sai_types.specs.declared.hop.Base.{Base}
@@ -15,21 +19,23 @@ use Rattle.sai_types.specs.declared.body.Body.TheVariants as body
 use Rattle.sai_types.specs.declared.body.Entry.{Entry}
 use Rattle.sai_types.specs.declared.body.Entry.TheVariants as entry
 use Rattle.sai_types.specs.declared.body.RifOn.TheVariants as on
+use Rattle.sai_types.specs.declared.body.To.{To}
 use Rattle.sai_types.specs.declared.body.To.TheVariants as to
+use Rattle.sai_types.specs.declared.thing.Goal.{Goal}
 use Rattle.sai_types.specs.declared.thing.Goal.TheVariants as goal
 use Rattle.sai_types.specs.declared.thing.Thing.{Thing}
 use Rattle.sai_types.specs.declared.thing.Thing.TheVariants as thing
 use Rattle.sai_types.specs.After.{entry_of}
 use Rattle.sai_types.specs.Made.{HaveLanes, IsWhole, same_entry}
-use Rattle.sai_types.specs.Named.{both, bridge_port_at, bridge_port_of, first_lane, next_hop_at, next_hop_of, port_at, body_port, rif_at, rif_of, thing_by, vlan_at, body_vlan, whop_at}
+use Rattle.sai_types.specs.Named.{both, bridge_port_at, bridge_port_of, first_lane, next_hop_at, next_hop_of, port_at, body_port, rif_at, rif_of, thing_by, vlan_at, body_vlan, body_router, goal_by, router_at, whop_at}
 use Rattle.sai_types.specs.Names as name
 use Rattle.sai_types.specs.Names.{name_of}
 use Rattle.sai_types.specs.Objects.{Objects, body_at, is_kind_of, is_there}
-use Rattle.sai_types.specs.References.{refers_well}
+use Rattle.sai_types.specs.References.{Reference, beside_router, refers_well, stands, target_references}
 use Rattle.sai_types.specs.Refusal.{same_id}
 use Rattle.sai_types.proofs.Found.{body_at-same, same-refl}
 use Rattle.sai_types.proofs.Things.{one-thing}
-use Rattle.chip_layout.specs.Bodies.{IsAt, IsBody, body_with, first_name, second_name}
+use Rattle.chip_layout.specs.Bodies.{IsAt, IsBody, body_with, first_name, goal_name, router_name, second_name, to_with, vr_with}
 use Rattle.chip_layout.specs.Layout.{Has, IsLaidOut, Layout, has_number}
 use Rattle.chip_layout.specs.Seen.{no_id, seen, tagged}
 use Rattle.chip_layout.proofs.Bodies.{entry-body, entry-same}
@@ -68,6 +74,23 @@ module _ (tag : Rid → List WHop) (made : ℕ) (objects : Objects) (whole : IsW
   vlan : (r : Rid) → is_there objects kind.Vlan r ≡ true → (n : ℕ) × (vlan_at objects r ≡ Some n) × Has L (name.Vlan n) r
   vlan r h = vlan_by r (body_at objects (entry.Oid r)) refl h
 
+  router_by : (r : Rid) (o : Option (Body Rid)) → body_at objects (entry.Oid r) ≡ o → is_kind_of kind.VirtualRouter o ≡ true → (n : VrfName) × (body_router o ≡ Some n) × Has L (name.VirtualRouter n) r
+  router_by r (Some (body.VirtualRouter n)) e h = (n, refl, (thing.VirtualRouter n, see r _ _ e (same-refl (entry.Oid r)) refl refl, refl))
+  router_by r (Some (body.Port lanes speed mtu up)) e h = absurd (false≢true h)
+  router_by r (Some _) e h = absurd (false≢true h)
+  router_by r None e h = absurd (false≢true h)
+
+  -- the virtual router of an object
+  abbrev IsInRouter : Option Rid → Type 0
+  IsInRouter vr = (v : Vrf) × (j : Rid) × (router_at objects vr ≡ Some v) × IsAt (Has L) (router_name v) j × (vr ≡ vr_with v j)
+
+  router : (vr : Option Rid) (rs : List (Reference Rid)) → list_all (stands objects) (beside_router vr rs) ≡ true → IsInRouter vr × (list_all (stands objects) rs ≡ true)
+  router None rs h = ((vrf.Default, no_id, refl, tt, refl), h)
+  router (Some r) rs h =
+      let parts = and_parts _ _ h in
+      let n = router_by r (body_at objects (entry.Oid r)) refl parts.0 in
+      ((vrf.Named n.0, r, ap (option_map vrf.Named) n.1, n.2, refl), parts.1)
+
   bridge_port_by : (r : Rid) (o : Option (Body Rid)) → body_at objects (entry.Oid r) ≡ o → is_kind_of kind.BridgePort o ≡ true → (n : ℕ) × (bridge_port_of objects o ≡ Some n) × Has L (name.BridgePort n) r
   bridge_port_by r (Some (body.BridgePort p)) e h =
       let n = port p (first_of_both _ _ (whole.refer.each (entry.Oid r) (body.BridgePort p) e)) in
@@ -80,14 +103,16 @@ module _ (tag : Rid → List WHop) (made : ℕ) (objects : Objects) (whole : IsW
   bridge_port r h = bridge_port_by r (body_at objects (entry.Oid r)) refl h
 
   rif_by : (r : Rid) (o : Option (Body Rid)) → body_at objects (entry.Oid r) ≡ o → is_kind_of kind.Rif o ≡ true → (b : Base) × (rif_of objects o ≡ Some b) × Has L (name.Rif b) r
-  rif_by r (Some (body.Rif (on.Port p))) e h =
-      let n = port p (first_of_both _ _ (whole.refer.each (entry.Oid r) (body.Rif (on.Port p)) e)) in
+  rif_by r (Some (body.Rif vr (on.Port p))) e h =
+      let in_router = router vr _ (whole.refer.each (entry.Oid r) (body.Rif vr (on.Port p)) e) in
+      let n = port p (first_of_both _ _ in_router.1) in
       let is = ap (option_map base.Port) n.1 in
-      (base.Port n.0, is, (thing.Rif (base.Port n.0), see r _ _ e (same-refl (entry.Oid r)) (ap (option_map thing.Rif) is) refl, refl))
-  rif_by r (Some (body.Rif (on.Vlan v))) e h =
-      let n = vlan v (first_of_both _ _ (whole.refer.each (entry.Oid r) (body.Rif (on.Vlan v)) e)) in
+      (base.Port n.0, is, (thing.Rif (base.Port n.0) in_router.0.0, see r _ _ e (same-refl (entry.Oid r)) (ap₂ (both thing.Rif) is in_router.0.2) refl, refl))
+  rif_by r (Some (body.Rif vr (on.Vlan v))) e h =
+      let in_router = router vr _ (whole.refer.each (entry.Oid r) (body.Rif vr (on.Vlan v)) e) in
+      let n = vlan v (first_of_both _ _ in_router.1) in
       let is = ap (option_map base.Vlan) n.1 in
-      (base.Vlan n.0, is, (thing.Rif (base.Vlan n.0), see r _ _ e (same-refl (entry.Oid r)) (ap (option_map thing.Rif) is) refl, refl))
+      (base.Vlan n.0, is, (thing.Rif (base.Vlan n.0) in_router.0.0, see r _ _ e (same-refl (entry.Oid r)) (ap₂ (both thing.Rif) is in_router.0.2) refl, refl))
   rif_by r (Some (body.Port lanes speed mtu up)) e h = absurd (false≢true h)
   rif_by r (Some _) e h = absurd (false≢true h)
   rif_by r None e h = absurd (false≢true h)
@@ -126,17 +151,32 @@ module _ (tag : Rid → List WHop) (made : ℕ) (objects : Objects) (whole : IsW
   show : (e : Entry Rid) (b : Body Rid) (t : Thing) (i j : Rid) → thing_by (tagged tag) objects (e, b) ≡ Some t → IsAt (Has L) (first_name t) i → IsAt (Has L) (second_name t) j → b ≡ body_with t i j → IsShown e b
   show e b t i j is x y body = (t, is, record { first = i; second = j; first_at = x; second_at = y; body_is = body })
 
+  points : (t : To Rid) → list_all (stands objects) (target_references t) ≡ true → (g : Goal) × (i : Rid) × (goal_by (tagged tag) objects t ≡ Some g) × IsAt (Has L) (goal_name g) i × (t ≡ to_with g i)
+  points to.Drop w = (goal.Drop, no_id, refl, tt, refl)
+  points (to.Rif r) w = let b = rif r (first_of_both _ _ w) in (goal.Direct b.0, r, ap (option_map goal.Direct) b.1, b.2, refl)
+  points (to.NextHop n) w = let hop = next_hop n (first_of_both _ _ w) in (goal.Via hop.0, n, ap (option_map goal.Via) hop.1, hop.2, refl)
+  points (to.Group g) w = (goal.Group (tag g), g, refl, group g (first_of_both _ _ w), refl)
+
   pub shown : (e : Entry Rid) (b : Body Rid) → body_at objects e ≡ Some b → refers_well objects b ≡ true → IsShown e b
   shown e (body.Port lanes speed mtu up) f w = show e _ (thing.Port (record { lanes = lanes; speed = speed; mtu = mtu; up = up })) no_id no_id refl tt tt refl
   shown e (body.Vlan v) f w = show e _ (thing.Vlan v) no_id no_id refl tt tt refl
+  shown e (body.VirtualRouter n) f w = show e _ (thing.VirtualRouter n) no_id no_id refl tt tt refl
   shown e (body.BridgePort p) f w = let n = port p (first_of_both _ _ w) in show e _ (thing.BridgePort n.0) p no_id (ap (option_map thing.BridgePort) n.1) n.2 tt refl
   shown e (body.VlanMember v p tagging) f w =
       let m = vlan v (first_of_both _ _ w) in
       let n = bridge_port p (second _ _ _ w) in
       show e _ (thing.VlanMember m.0 n.0 tagging) v p (ap₂ (both (λ x y. thing.VlanMember x y tagging)) m.1 n.1) m.2 n.2 refl
-  shown e (body.Rif (on.Port p)) f w = let n = port p (first_of_both _ _ w) in show e _ (thing.Rif (base.Port n.0)) p no_id (ap (λ o. option_map thing.Rif (option_map base.Port o)) n.1) n.2 tt refl
-  shown e (body.Rif (on.Vlan v)) f w = let n = vlan v (first_of_both _ _ w) in show e _ (thing.Rif (base.Vlan n.0)) v no_id (ap (λ o. option_map thing.Rif (option_map base.Vlan o)) n.1) n.2 tt refl
-  shown e (body.OwnAddress ip) f w = show e _ (thing.Own ip) no_id no_id refl tt tt refl
+  shown e (body.Rif vr (on.Port p)) f w =
+      let v = router vr _ w in
+      let n = port p (first_of_both _ _ v.1) in
+      show e _ (thing.Rif (base.Port n.0) v.0.0) p v.0.1 (ap₂ (both thing.Rif) (ap (option_map base.Port) n.1) v.0.2) n.2 v.0.3 (ap (λ z. body.Rif z (on.Port p)) v.0.4)
+  shown e (body.Rif vr (on.Vlan m)) f w =
+      let v = router vr _ w in
+      let n = vlan m (first_of_both _ _ v.1) in
+      show e _ (thing.Rif (base.Vlan n.0) v.0.0) m v.0.1 (ap₂ (both thing.Rif) (ap (option_map base.Vlan) n.1) v.0.2) n.2 v.0.3 (ap (λ z. body.Rif z (on.Vlan m)) v.0.4)
+  shown e (body.OwnAddress vr ip) f w =
+      let v = router vr [] w in
+      show e _ (thing.Own v.0.0 ip) no_id v.0.1 (ap (option_map (λ z. thing.Own z ip)) v.0.2) tt v.0.3 (ap (λ z. body.OwnAddress z ip) v.0.4)
   shown e (body.Neighbor r ip mac) f w = let b = rif r (first_of_both _ _ w) in show e _ (thing.Neighbor (hop_of b.0 ip) mac) r no_id (ap (λ o. option_map (λ z. thing.Neighbor z mac) (option_map (λ x. hop_of x ip) o)) b.1) b.2 tt refl
   shown e (body.NextHop r ip) f w = let b = rif r (first_of_both _ _ w) in show e _ (thing.NextHop (hop_of b.0 ip)) r no_id (ap (λ o. option_map thing.NextHop (option_map (λ x. hop_of x ip) o)) b.1) b.2 tt refl
   shown e body.Group f w =
@@ -147,10 +187,10 @@ module _ (tag : Rid → List WHop) (made : ℕ) (objects : Objects) (whole : IsW
       let hop = next_hop n (second _ _ _ w) in
       let whop : whop_at objects n weight ≡ Some (record { hop = hop.0; weight = weight }) = ap (option_map (λ h. record { hop = h; weight = weight })) hop.1 in
       show e _ (thing.GroupMember (tag g) (record { hop = hop.0; weight = weight })) g n (ap (both thing.GroupMember (tagged tag g)) whop) (group g (first_of_both _ _ w)) hop.2 refl
-  shown e (body.Route prefix to.Drop) f w = show e _ (thing.Route prefix goal.Drop) no_id no_id refl tt tt refl
-  shown e (body.Route prefix (to.Rif r)) f w = let b = rif r (first_of_both _ _ w) in show e _ (thing.Route prefix (goal.Direct b.0)) r no_id (ap (λ o. option_map (thing.Route prefix) (option_map goal.Direct o)) b.1) b.2 tt refl
-  shown e (body.Route prefix (to.NextHop r)) f w = let hop = next_hop r (first_of_both _ _ w) in show e _ (thing.Route prefix (goal.Via hop.0)) r no_id (ap (λ o. option_map (thing.Route prefix) (option_map goal.Via o)) hop.1) hop.2 tt refl
-  shown e (body.Route prefix (to.Group g)) f w = show e _ (thing.Route prefix (goal.Group (tag g))) g no_id refl (group g (first_of_both _ _ w)) tt refl
+  shown e (body.Route vr prefix t) f w =
+      let v = router vr _ w in
+      let g = points t v.1 in
+      show e _ (thing.Route v.0.0 prefix g.0) g.1 v.0.1 (ap₂ (both (λ z u. thing.Route z prefix u)) v.0.2 g.2) g.3 v.0.3 (ap₂ (λ z u. body.Route z prefix u) v.0.4 g.4)
 
   -- the body of what is seen is its thing's
   pub body-seen : (e : Entry Rid) (b : Body Rid) (t : Thing) → body_at objects e ≡ Some b → thing_by (tagged tag) objects (e, b) ≡ Some t → IsBody (Has L) t b

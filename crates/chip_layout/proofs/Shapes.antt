@@ -1,15 +1,20 @@
 -- layouts that say the same, layouts by other identifiers, and what follows from a layout
-use Rattle.std.proofs.Common.{◌≡◌, [], Option, None, Some, refl, ap, ◌∙◌}
+use Rattle.std.proofs.Common.{◌≡◌, [], Option, None, Some, option_map, refl, ap, ◌∙◌}
 use Rattle.sai_types.specs.declared.ids.Rid.{Rid}
 use Rattle.sai_types.specs.declared.hop.Base.TheVariants as base
+use Rattle.swss_types.specs.declared.vrf.Vrf.{Vrf}
+use Rattle.swss_types.specs.declared.vrf.Vrf.TheVariants as vrf
 use Rattle.sai_types.specs.declared.body.Body.{Body}
+use Rattle.sai_types.specs.declared.body.Body.TheVariants as body
+use Rattle.sai_types.specs.declared.body.RifOn.TheVariants as on
+use Rattle.sai_types.specs.declared.body.To.TheVariants as to
 use Rattle.sai_types.specs.declared.thing.Goal.TheVariants as goal
 use Rattle.sai_types.specs.declared.thing.Thing.{Thing}
 use Rattle.sai_types.specs.declared.thing.Thing.TheVariants as thing
 use Rattle.sai_types.specs.Objects.{Objects}
 use Rattle.sai_types.specs.Names.{ThingName, Refers}
 use Rattle.chip_layout.specs.Bodies.{first_name, second_name}
-use Rattle.chip_layout.specs.Bodies.{IsAt, IsBody, body_with}
+use Rattle.chip_layout.specs.Bodies.{IsAt, IsBody, body_with, vr_with}
 use Rattle.chip_layout.specs.Layout.{Has, IsLaidOut, Layout}
 use Rattle.chip_layout.specs.Renamed.{body_renamed}
 use Rattle.chip_layout.proofs.Bodies.{body-kept, first-refers, second-refers}
@@ -52,13 +57,18 @@ has-body layout t none f =
 abbrev pub renamed : {I J : Type 0} → (I → J) → Layout I → Layout J
 renamed {I} f layout j t = (i : I) × layout i t × (f i ≡ j)
 
+vr_renamed : {I J : Type 0} (f : I → J) (v : Vrf) (j : I) → option_map f (vr_with v j) ≡ vr_with v (f j)
+vr_renamed f vrf.Default j = refl
+vr_renamed f (vrf.Named label) j = refl
+
 pub renamed_with : {I J : Type 0} (f : I → J) (t : Thing) (i j : I) → body_renamed f (body_with t i j) ≡ body_with t (f i) (f j)
-renamed_with f (thing.Rif (base.Port lane)) i j = refl
-renamed_with f (thing.Rif (base.Vlan vlan)) i j = refl
-renamed_with f (thing.Route prefix goal.Drop) i j = refl
-renamed_with f (thing.Route prefix (goal.Direct on)) i j = refl
-renamed_with f (thing.Route prefix (goal.Via hop)) i j = refl
-renamed_with f (thing.Route prefix (goal.Group hops)) i j = refl
+renamed_with f (thing.Rif (base.Port lane) v) i j = ap (λ x. body.Rif x (on.Port (f i))) (vr_renamed f v j)
+renamed_with f (thing.Rif (base.Vlan vlan) v) i j = ap (λ x. body.Rif x (on.Vlan (f i))) (vr_renamed f v j)
+renamed_with f (thing.Own v ip) i j = ap (λ x. body.OwnAddress x ip) (vr_renamed f v j)
+renamed_with f (thing.Route v prefix goal.Drop) i j = ap (λ x. body.Route x prefix to.Drop) (vr_renamed f v j)
+renamed_with f (thing.Route v prefix (goal.Direct on)) i j = ap (λ x. body.Route x prefix (to.Rif (f i))) (vr_renamed f v j)
+renamed_with f (thing.Route v prefix (goal.Via hop)) i j = ap (λ x. body.Route x prefix (to.NextHop (f i))) (vr_renamed f v j)
+renamed_with f (thing.Route v prefix (goal.Group hops)) i j = ap (λ x. body.Route x prefix (to.Group (f i))) (vr_renamed f v j)
 renamed_with f _ i j = refl
 
 at_renamed : {I J : Type 0} (f : I → J) (layout : Layout I) (o : Option ThingName) (i : I) → IsAt (Has layout) o i → IsAt (Has (renamed f layout)) o (f i)

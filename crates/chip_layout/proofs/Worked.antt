@@ -1,5 +1,5 @@
 -- a group that is half built, worked out by computation: nothing cites it, and it shows that the definitions say what is meant
-use Rattle.std.proofs.Common.{◌≡◌, inl, inr, ℕ, List, [], ◌∷◌, refl, ap, arith}
+use Rattle.std.proofs.Common.{◌≡◌, inl, inr, ℕ, List, [], ◌∷◌, None, refl, ap, arith}
 use Rattle.swss_types.specs.declared.address.Family.TheVariants.{V4}
 use Rattle.swss_types.specs.declared.address.Ip.{Ip}
 use Rattle.swss_types.specs.declared.address.Mac.{Mac}
@@ -7,6 +7,7 @@ use Rattle.sai_types.specs.declared.ids.Rid.{Rid}
 use Rattle.sai_types.specs.declared.hop.Base.TheVariants as base
 use Rattle.sai_types.specs.declared.hop.Hop.{Hop}
 use Rattle.sai_types.specs.declared.weight.WHop.{WHop}
+use Rattle.swss_types.specs.declared.vrf.Vrf.TheVariants as vrf
 use Rattle.sai_types.specs.declared.body.Body.TheVariants as body
 use Rattle.sai_types.specs.declared.body.Call.{Call}
 use Rattle.sai_types.specs.declared.body.Call.TheVariants as call
@@ -49,7 +50,7 @@ group = heavy ∷ light ∷ []
 abbrev calls : List (Call Rid)
 calls =
     call.Create (body.Vlan 10)
-    ∷ call.Create (body.Rif (on.Vlan (id 1)))
+    ∷ call.Create (body.Rif None (on.Vlan (id 1)))
     ∷ call.Create (body.Neighbor (id 2) (ten 2) (mac 2))
     ∷ call.Create (body.NextHop (id 2) (ten 2))
     ∷ call.Create (body.Neighbor (id 2) (ten 3) (mac 3))
@@ -60,11 +61,11 @@ calls =
     ∷ []
 
 -- the chip shows a group of one hop, where a group of two is meant
-half_shown : those (named (chip_after calls 8)) ≡ thing.Vlan 10 ∷ thing.Rif (base.Vlan 10) ∷ thing.NextHop one ∷ thing.NextHop other ∷ thing.Group (heavy ∷ []) ∷ thing.GroupMember (heavy ∷ []) heavy ∷ thing.Neighbor one (mac 2) ∷ thing.Neighbor other (mac 3) ∷ []
+half_shown : those (named (chip_after calls 8)) ≡ thing.Vlan 10 ∷ thing.Rif (base.Vlan 10) vrf.Default ∷ thing.NextHop one ∷ thing.NextHop other ∷ thing.Group (heavy ∷ []) ∷ thing.GroupMember (heavy ∷ []) heavy ∷ thing.Neighbor one (mac 2) ∷ thing.Neighbor other (mac 3) ∷ []
 half_shown = refl
 
 -- and two hops once it is whole
-whole_shown : those (named (chip_after calls 9)) ≡ thing.Vlan 10 ∷ thing.Rif (base.Vlan 10) ∷ thing.NextHop one ∷ thing.NextHop other ∷ thing.Group group ∷ thing.GroupMember group heavy ∷ thing.GroupMember group light ∷ thing.Neighbor one (mac 2) ∷ thing.Neighbor other (mac 3) ∷ []
+whole_shown : those (named (chip_after calls 9)) ≡ thing.Vlan 10 ∷ thing.Rif (base.Vlan 10) vrf.Default ∷ thing.NextHop one ∷ thing.NextHop other ∷ thing.Group group ∷ thing.GroupMember group heavy ∷ thing.GroupMember group light ∷ thing.Neighbor one (mac 2) ∷ thing.Neighbor other (mac 3) ∷ []
 whole_shown = refl
 
 -- what stands while it is half built: the group has the name that it is meant to have

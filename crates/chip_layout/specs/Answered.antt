@@ -16,7 +16,7 @@ use Rattle.sai_types.specs.Forwarding as decision
 use Rattle.sai_types.specs.Objects.{Objects, body_at}
 
 abbrev pub HasPrefix : Body Rid → Type 0
-HasPrefix (body.Route prefix to) = IsProperPrefix prefix
+HasPrefix (body.Route vr prefix to) = IsProperPrefix prefix
 HasPrefix _ = Unit {0}
 
 -- the prefix of each route is proper

@@ -16,7 +16,9 @@ use Rattle.sai_types.specs.declared.thing.Goal.{Goal}
 use Rattle.sai_types.specs.declared.thing.Goal.TheVariants as goal
 use Rattle.sai_types.specs.declared.thing.Thing.{Thing}
 use Rattle.sai_types.specs.declared.thing.Thing.TheVariants as thing
-use Rattle.sai_types.specs.Names.{ThingName, goal_names, name_kind, thing_references}
+use Rattle.sai_types.specs.Names.{ThingName, VirtualRouter, goal_names, main_references, name_kind}
+use Rattle.swss_types.specs.declared.vrf.Vrf.{Vrf}
+use Rattle.swss_types.specs.declared.vrf.Vrf.TheVariants as vrf
 
 -- whether objects of this kind have identifiers
 abbrev pub is_numbered : Kind → Bool
@@ -34,12 +36,20 @@ abbrev pub second_of : List ThingName → Option ThingName
 second_of (k ∷ l ∷ ks) = if is_numbered (name_kind l) then Some l else None
 second_of _ = None
 
--- what the first identifier in a thing's object names, and the second: a next hop's neighbour is named by the identifier of its interface
+-- the name of a virtual router, which the default one has not
+abbrev pub router_name : Vrf → Option ThingName
+router_name vrf.Default = None
+router_name (vrf.Named label) = Some (VirtualRouter label)
+
+-- what the first identifier in a thing's object names, and the second: that of the virtual router is the second, and a next hop's neighbour is named by the identifier of its interface
 abbrev pub first_name : Thing → Option ThingName
-first_name t = first_thing_name (thing_references t)
+first_name t = first_thing_name (main_references t)
 
 abbrev pub second_name : Thing → Option ThingName
-second_name t = second_of (thing_references t)
+second_name (thing.Rif on v) = router_name v
+second_name (thing.Own v ip) = router_name v
+second_name (thing.Route v prefix goal) = router_name v
+second_name t = second_of (main_references t)
 
 abbrev pub goal_name : Goal → Option ThingName
 goal_name goal = first_thing_name (goal_names goal)
@@ -54,19 +64,24 @@ to_with (goal.Direct on) i = to.Rif i
 to_with (goal.Via hop) i = to.NextHop i
 to_with (goal.Group hops) i = to.Group i
 
+abbrev pub vr_with : {I : Type 0} → Vrf → I → Option I
+vr_with vrf.Default j = None
+vr_with (vrf.Named label) j = Some j
+
 -- the body of a thing whose references have the identifiers i and j
 abbrev pub body_with : {I : Type 0} → Thing → I → I → Body I
 body_with (thing.Port p) i j = body.Port p.lanes p.speed p.mtu p.up
 body_with (thing.Vlan vlan) i j = body.Vlan vlan
+body_with (thing.VirtualRouter label) i j = body.VirtualRouter label
 body_with (thing.BridgePort lane) i j = body.BridgePort i
 body_with (thing.VlanMember vlan lane tagging) i j = body.VlanMember i j tagging
-body_with (thing.Rif on) i j = body.Rif (on_with on i)
-body_with (thing.Own ip) i j = body.OwnAddress ip
+body_with (thing.Rif on v) i j = body.Rif (vr_with v j) (on_with on i)
+body_with (thing.Own v ip) i j = body.OwnAddress (vr_with v j) ip
 body_with (thing.Neighbor hop mac) i j = body.Neighbor i hop.ip mac
 body_with (thing.NextHop hop) i j = body.NextHop i hop.ip
 body_with (thing.Group hops) i j = body.Group
 body_with (thing.GroupMember hops whop) i j = body.GroupMember i j whop.weight
-body_with (thing.Route prefix goal) i j = body.Route prefix (to_with goal i)
+body_with (thing.Route v prefix goal) i j = body.Route (vr_with v j) prefix (to_with goal i)
 
 -- an identifier is that of a name, where there is a name
 abbrev pub IsAt : {I : Type 0} → (ThingName → I → Type 0) → Option ThingName → I → Type 0
@@ -88,5 +103,5 @@ IsChange at (thing.Port p) (attr.Mtu m) u = u ≡ thing.Port (record { lanes = p
 IsChange at (thing.Port p) (attr.Up x) u = u ≡ thing.Port (record { lanes = p.lanes; speed = p.speed; mtu = p.mtu; up = x })
 IsChange at (thing.VlanMember vlan lane tagging) (attr.Tagging x) u = u ≡ thing.VlanMember vlan lane x
 IsChange at (thing.Neighbor hop mac) (attr.Mac m) u = u ≡ thing.Neighbor hop m
-IsChange {I} at (thing.Route prefix goal) (attr.To x) u = (next : Goal) × (i : I) × IsAt at (goal_name next) i × (x ≡ to_with next i) × (u ≡ thing.Route prefix next)
+IsChange {I} at (thing.Route v prefix goal) (attr.To x) u = (next : Goal) × (i : I) × IsAt at (goal_name next) i × (x ≡ to_with next i) × (u ≡ thing.Route v prefix next)
 IsChange at _ _ u = ⊥

@@ -1,5 +1,5 @@
 -- Objects by other identifiers. Own.
-use Rattle.std.specs.Prelude.{◌≡◌, List, [], ◌∷◌, Some}
+use Rattle.std.specs.Prelude.{◌≡◌, List, [], ◌∷◌, Some, option_map}
 use Rattle.sai_types.specs.declared.ids.Rid.{Rid}
 use Rattle.sai_types.specs.declared.body.Attr.{Attr}
 use Rattle.sai_types.specs.declared.body.Attr.TheVariants as attr
@@ -29,21 +29,22 @@ to_renamed f (to.Group i) = to.Group (f i)
 abbrev pub body_renamed : {I J : Type 0} → (I → J) → Body I → Body J
 body_renamed f (body.Port lanes speed mtu up) = body.Port lanes speed mtu up
 body_renamed f (body.Vlan vlan) = body.Vlan vlan
+body_renamed f (body.VirtualRouter label) = body.VirtualRouter label
 body_renamed f (body.BridgePort i) = body.BridgePort (f i)
 body_renamed f (body.VlanMember i j tagging) = body.VlanMember (f i) (f j) tagging
-body_renamed f (body.Rif on) = body.Rif (on_renamed f on)
-body_renamed f (body.OwnAddress ip) = body.OwnAddress ip
+body_renamed f (body.Rif vr on) = body.Rif (option_map f vr) (on_renamed f on)
+body_renamed f (body.OwnAddress vr ip) = body.OwnAddress (option_map f vr) ip
 body_renamed f (body.Neighbor i ip mac) = body.Neighbor (f i) ip mac
 body_renamed f (body.NextHop i ip) = body.NextHop (f i) ip
 body_renamed f body.Group = body.Group
 body_renamed f (body.GroupMember i j weight) = body.GroupMember (f i) (f j) weight
-body_renamed f (body.Route prefix to) = body.Route prefix (to_renamed f to)
+body_renamed f (body.Route vr prefix to) = body.Route (option_map f vr) prefix (to_renamed f to)
 
 abbrev pub entry_renamed : {I J : Type 0} → (I → J) → Entry I → Entry J
 entry_renamed f (entry.Oid i) = entry.Oid (f i)
-entry_renamed f (entry.Own ip) = entry.Own ip
+entry_renamed f (entry.Own vr ip) = entry.Own (option_map f vr) ip
 entry_renamed f (entry.Neigh i ip) = entry.Neigh (f i) ip
-entry_renamed f (entry.Route prefix) = entry.Route prefix
+entry_renamed f (entry.Route vr prefix) = entry.Route (option_map f vr) prefix
 
 abbrev pub attr_renamed : {I J : Type 0} → (I → J) → Attr I → Attr J
 attr_renamed f (attr.Speed s) = attr.Speed s

@@ -1,9 +1,9 @@
 // Bodies, entries, attributes and calls by other identifiers.
-ghost use Rattle.std.specs.Prelude.{◌≡◌, IfOk};
+ghost use Rattle.std.specs.Prelude.{◌≡◌, IfOk, option_map};
 ghost use Rattle.chip_layout.specs.Renamed.{attr_renamed, body_renamed, call_renamed, entry_renamed, on_renamed, to_renamed};
 
 use sai_types::{Attr, Body, Call, Entry, RifOn, To, Weight};
-use swss_types::{Ip, Lanes, Mac, OutOfMemory, Tagging};
+use swss_types::{Ip, Lanes, Mac, OutOfMemory, Prefix, Tagging};
 
 /// What gives another identifier for each.
 pub trait NewIds<I, J> {
@@ -37,6 +37,16 @@ pub fn to_with_ids<I, J, N: NewIds<I, J>>(ids: &N, to: To<I>) -> To<J>
     }
 }
 
+/// The virtual router of an object, by the other identifiers.
+pub fn vr_with_ids<I, J, N: NewIds<I, J>>(ids: &N, vr: Option<I>) -> Option<J>
+    ensures { result ≡ option_map (N.new_id ids.now) vr }
+{
+    match vr {
+        None => None,
+        Some(vr) => Some(ids.new_id(vr)),
+    }
+}
+
 /// A body by the other identifiers.
 pub fn body_with_ids<I: Copy, J, N: NewIds<I, J>>(
     ids: &N,
@@ -52,6 +62,7 @@ pub fn body_with_ids<I: Copy, J, N: NewIds<I, J>>(
             up,
         } => port(lanes, *speed, *mtu, *up)?,
         Body::Vlan { vlan } => Body::Vlan { vlan: *vlan },
+        Body::VirtualRouter { label } => Body::VirtualRouter { label: *label },
         Body::BridgePort { port } => Body::BridgePort {
             port: ids.new_id(*port),
         },
@@ -60,10 +71,11 @@ pub fn body_with_ids<I: Copy, J, N: NewIds<I, J>>(
             bridge_port,
             tagging,
         } => vlan_member(ids, *vlan, *bridge_port, *tagging),
-        Body::Rif { on } => Body::Rif {
-            on: on_with_ids(ids, *on),
+        Body::Rif { vr, on } => rif(ids, *vr, *on),
+        Body::OwnAddress { vr, ip } => Body::OwnAddress {
+            vr: vr_with_ids(ids, *vr),
+            ip: *ip,
         },
-        Body::OwnAddress { ip } => Body::OwnAddress { ip: *ip },
         Body::Neighbor { rif, ip, mac } => neighbor(ids, *rif, *ip, *mac),
         Body::NextHop { rif, ip } => next_hop(ids, *rif, *ip),
         Body::Group => Body::Group,
@@ -72,10 +84,7 @@ pub fn body_with_ids<I: Copy, J, N: NewIds<I, J>>(
             next_hop,
             weight,
         } => group_member(ids, *group, *next_hop, *weight),
-        Body::Route { prefix, to } => Body::Route {
-            prefix: *prefix,
-            to: to_with_ids(ids, *to),
-        },
+        Body::Route { vr, prefix, to } => route(ids, *vr, *prefix, *to),
     })
 }
 
@@ -100,6 +109,16 @@ fn vlan_member<I, J, N: NewIds<I, J>>(ids: &N, vlan: I, bridge_port: I, tagging:
         vlan: ids.new_id(vlan),
         bridge_port: ids.new_id(bridge_port),
         tagging,
+    }
+}
+
+/// A router interface.
+fn rif<I, J, N: NewIds<I, J>>(ids: &N, vr: Option<I>, on: RifOn<I>) -> Body<J>
+    ensures { result ≡ body_renamed (N.new_id ids.now) (Body.Rif vr on) }
+{
+    Body::Rif {
+        vr: vr_with_ids(ids, vr),
+        on: on_with_ids(ids, on),
     }
 }
 
@@ -130,15 +149,26 @@ fn group_member<I, J, N: NewIds<I, J>>(ids: &N, group: I, next_hop: I, weight: W
     }
 }
 
+/// A route.
+fn route<I, J, N: NewIds<I, J>>(ids: &N, vr: Option<I>, prefix: Prefix, to: To<I>) -> Body<J>
+    ensures { result ≡ body_renamed (N.new_id ids.now) (Body.Route vr prefix to) }
+{
+    Body::Route {
+        vr: vr_with_ids(ids, vr),
+        prefix,
+        to: to_with_ids(ids, to),
+    }
+}
+
 /// An entry by the other identifiers.
 pub fn entry_with_ids<I, J, N: NewIds<I, J>>(ids: &N, entry: Entry<I>) -> Entry<J>
     ensures { result ≡ entry_renamed (N.new_id ids.now) entry }
 {
     match entry {
         Entry::Oid(id) => Entry::Oid(ids.new_id(id)),
-        Entry::Own(ip) => Entry::Own(ip),
+        Entry::Own(vr, ip) => Entry::Own(vr_with_ids(ids, vr), ip),
         Entry::Neigh(rif, ip) => Entry::Neigh(ids.new_id(rif), ip),
-        Entry::Route(prefix) => Entry::Route(prefix),
+        Entry::Route(vr, prefix) => Entry::Route(vr_with_ids(ids, vr), prefix),
     }
 }
 

@@ -25,6 +25,6 @@ at-numbered (e ∷ ids) r = ap (cond (is_at (rid_cmp r) e.0) (Some e.1)) (at-num
 
 pub not_oid : (e : Entry Rid) → ((r : Rid) → e ≡ entry.Oid r → ⊥) → (r : Rid) → is_at (entry_cmp e) (entry.Oid r) ≡ false
 not_oid (entry.Oid s) not r = absurd (not s refl)
-not_oid (entry.Own ip) not r = refl
+not_oid (entry.Own v ip) not r = refl
 not_oid (entry.Neigh s ip) not r = refl
-not_oid (entry.Route p) not r = refl
+not_oid (entry.Route v p) not r = refl

@@ -1,6 +1,7 @@
 -- what objects stand for, by bodies that are found alike
 use Rattle.std.proofs.Common.{◌≡◌, ℕ, ◌-◌, ◌<◌, ◌≤◌, suc, List, [], ◌∷◌, length, drop, get_or, drop-cons, map, Option, None, Some, option_map, if◌then◌else◌, refl, sym, ap, ◌∙◌, arith}
 use Rattle.swss_types.specs.declared.address.Ip.{Ip}
+use Rattle.swss_types.specs.declared.vrf.Vrf.TheVariants as vrf
 use Rattle.sai_types.specs.declared.ids.Rid.{Rid}
 use Rattle.sai_types.specs.declared.hop.Base.TheVariants as base
 use Rattle.sai_types.specs.declared.weight.WHop.{WHop}
@@ -17,7 +18,7 @@ use Rattle.sai_types.specs.declared.body.To.TheVariants as to
 use Rattle.sai_types.specs.Objects.{Objects, body_at}
 use Rattle.sai_types.specs.ChipState.{objects_of}
 use Rattle.sai_types.specs.Refusal.{same_id}
-use Rattle.sai_types.specs.Named.{both, body_port, body_vlan, port_at, vlan_at, bridge_port_of, bridge_port_at, base_on, rif_of, rif_at, hop_on, next_hop_of, next_hop_at, put_hop, whop_at, with_member, hops_among, hops_at, goal_by, thing_by, thing_of, things_among, named}
+use Rattle.sai_types.specs.Named.{both, body_port, body_router, body_vlan, port_at, router_at, vlan_at, bridge_port_of, bridge_port_at, base_on, rif_of, rif_at, hop_on, next_hop_of, next_hop_at, put_hop, whop_at, with_member, hops_among, hops_at, goal_by, thing_by, thing_of, things_among, named}
 use Rattle.chip_names.specs.Members.{hops_by}
 use Rattle.chip_names.specs.Naming.{AreBodies, AreHops, AreNamesOf, GroupHops, NameTable, entries_of, hops_of_group}
 
@@ -27,6 +28,10 @@ module _ (xs ys : Objects) (found : AreBodies ys xs) where
 
   vlan_at-same : (r : Rid) → vlan_at xs r ≡ vlan_at ys r
   vlan_at-same r = ap body_vlan (found.each r)
+
+  pub router_at-same : (vr : Option Rid) → router_at xs vr ≡ router_at ys vr
+  router_at-same None = refl
+  router_at-same (Some r) = ap (λ o. option_map vrf.Named (body_router o)) (found.each r)
 
   bridge_port_of-same : (o : Option (Body Rid)) → bridge_port_of xs o ≡ bridge_port_of ys o
   bridge_port_of-same None = refl
@@ -42,7 +47,7 @@ module _ (xs ys : Objects) (found : AreBodies ys xs) where
 
   rif_of-same : (o : Option (Body Rid)) → rif_of xs o ≡ rif_of ys o
   rif_of-same None = refl
-  rif_of-same (Some (body.Rif on)) = base_on-same on
+  rif_of-same (Some (body.Rif vr on)) = base_on-same on
   rif_of-same (Some _) = refl
 
   pub rif_at-same : (r : Rid) → rif_at xs r ≡ rif_at ys r
@@ -84,18 +89,19 @@ module _ (xs ys : Objects) (found : AreBodies ys xs) where
     pub thing_by-same : (e : Entry Rid) (b : Body Rid) → thing_by f xs (e, b) ≡ thing_by g ys (e, b)
     thing_by-same e (body.Port lanes speed mtu up) = refl
     thing_by-same e (body.Vlan vlan) = refl
+    thing_by-same e (body.VirtualRouter label) = refl
     thing_by-same e (body.BridgePort port) = ap (option_map thing.BridgePort) (port_at-same port)
     thing_by-same e (body.VlanMember vlan bridge_port tagging) = let one = vlan_at-same vlan in let two = bridge_port_at-same bridge_port in cc
-    thing_by-same e (body.Rif on) = ap (option_map thing.Rif) (base_on-same on)
-    thing_by-same e (body.OwnAddress ip) = refl
+    thing_by-same e (body.Rif vr on) = let one = base_on-same on in let two = router_at-same vr in cc
+    thing_by-same e (body.OwnAddress vr ip) = ap (option_map (λ v. thing.Own v ip)) (router_at-same vr)
     thing_by-same e (body.Neighbor rif ip mac) = ap (option_map (λ h. thing.Neighbor h mac)) (hop_on-same rif ip)
     thing_by-same e (body.NextHop rif ip) = ap (option_map thing.NextHop) (hop_on-same rif ip)
     thing_by-same (entry.Oid r) body.Group = ap (option_map thing.Group) (hops r)
-    thing_by-same (entry.Own ip) body.Group = refl
+    thing_by-same (entry.Own v ip) body.Group = refl
     thing_by-same (entry.Neigh r ip) body.Group = refl
-    thing_by-same (entry.Route p) body.Group = refl
+    thing_by-same (entry.Route v p) body.Group = refl
     thing_by-same e (body.GroupMember group next_hop weight) = let one = hops group in let two = whop_at-same next_hop weight in cc
-    thing_by-same e (body.Route prefix to) = ap (option_map (thing.Route prefix)) (goal_by-same to)
+    thing_by-same e (body.Route vr prefix to) = let one = router_at-same vr in let two = goal_by-same to in cc
 
     map-same : (os : Objects) → map (thing_by f xs) os ≡ map (thing_by g ys) os
     map-same [] = refl
@@ -125,7 +131,7 @@ hops_by-before objects ns left d hop hops new some within found one more =
     ∙ ap (λ hs. both put_hop hs (whop_at objects (get_or ns (left - 1) d).0 (get_or ns (left - 1) d).1)) found
     ∙ ap (hops_by objects) (sym (drop-before ns left d some within))
 
--- and so is what one of them names, and where a route leads
+-- and so is what one of them names, where a route leads, and which router an object is in
 module _ (objects : Objects) (names : NameTable) (are : AreNamesOf objects names) where
   hops_of-names : (r : Rid) → hops_of_group names.groups r ≡ hops_at objects r
   hops_of-names r = are.groups.each r ∙ hops_among-same names.bodies objects are.bodies r objects
@@ -135,6 +141,9 @@ module _ (objects : Objects) (names : NameTable) (are : AreNamesOf objects names
 
   pub goal-named : (to : To Rid) → goal_by (hops_of_group names.groups) names.bodies to ≡ goal_by (hops_at objects) objects to
   goal-named to = goal_by-same names.bodies objects are.bodies (hops_of_group names.groups) (hops_at objects) hops_of-names to
+
+  pub router-named : (vr : Option Rid) → router_at names.bodies vr ≡ router_at objects vr
+  router-named vr = router_at-same names.bodies objects are.bodies vr
 
 -- the objects of a chip, as its list gives them
 pub entries_of-objects_of : (objects : Objects) → entries_of (objects_of objects) ≡ objects

@@ -19,7 +19,7 @@ hops_by objects (n ∷ ns) = both put_hop (hops_by objects ns) (whop_at objects 
 -- the group by whose hops an object is named
 abbrev pub group_named_by : Entry Rid → Body Rid → Option Rid
 group_named_by e (body.GroupMember group next_hop weight) = Some group
-group_named_by e (body.Route prefix (to.Group g)) = Some g
+group_named_by e (body.Route vr prefix (to.Group g)) = Some g
 group_named_by (entry.Oid g) body.Group = Some g
 group_named_by e b = None
 

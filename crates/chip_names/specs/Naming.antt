@@ -9,9 +9,7 @@ use Rattle.sai_types.specs.declared.hop.Hop.{Hop}
 use Rattle.sai_types.specs.declared.weight.WHop.{WHop}
 use Rattle.sai_types.specs.declared.body.Body.{Body}
 use Rattle.sai_types.specs.declared.body.Object.{Object}
-use Rattle.sai_types.specs.declared.thing.Thing.{Thing}
 use Rattle.sai_types.specs.contracts.ids.RidOrd.TheImpl as rid_ord
-use Rattle.sai_types.specs.contracts.thing.ThingOrd.TheImpl as thing_ord
 use Rattle.sai_types.specs.declared.body.Entry.TheVariants as entry
 use Rattle.sai_types.specs.Objects.{Objects, body_at}
 use Rattle.sai_types.specs.Refusal.{same_id}
@@ -20,10 +18,6 @@ use Rattle.sai_types.specs.Named.{both, hops_among, next_hop_at, put_hop}
 -- the order of identifiers
 abbrev pub rid_cmp : Rid → Rid → Ordering
 rid_cmp = rid_ord.ghosts.cmp
-
--- the order of things: by kind, and within a kind by what they are
-abbrev pub thing_cmp : Thing → Thing → Ordering
-thing_cmp = thing_ord.ghosts.cmp
 
 -- objects as entries with their bodies
 abbrev pub entries_of : List (Object Rid) → Objects

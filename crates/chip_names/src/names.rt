@@ -1,7 +1,7 @@
 // What identifiers stand for.
 ghost use Rattle.std.specs.Prelude.{◌≡◌, [], IfOk, option_copied, option_map};
 ghost use Rattle.std.specs.Option.{is_some};
-ghost use Rattle.sai_types.specs.Named.{base_on, both, bridge_port_at, goal_by, hop_on, next_hop_at, port_at, rif_at, thing_by, vlan_at, whop_at};
+ghost use Rattle.sai_types.specs.Named.{base_on, both, bridge_port_at, goal_by, hop_on, next_hop_at, port_at, rif_at, router_at, thing_by, vlan_at, whop_at};
 ghost use Rattle.sai_types.specs.Objects.{body_at};
 ghost use Rattle.chip_names.specs.Naming.{hops_of_group, numbered};
 
@@ -11,7 +11,7 @@ use sai_types::{
     Base, Body, Entry, Goal, Hop, Hops, PortThing, Rid, RifOn, Thing, To, WHop, Weight,
 };
 use std::alloc::Global;
-use swss_types::{Ip, Mac, OutOfMemory, Prefix, Tagging};
+use swss_types::{Ip, Mac, OutOfMemory, Prefix, Tagging, Vrf};
 
 /// The hops of each group that has members: None where a member's next hop is absent.
 pub type GroupHops = LateMap<Rid, Option<Hops>>;
@@ -43,6 +43,19 @@ fn vlan_at(bodies: &Numbered, vlan: Rid) -> Option<u16>
     }
 }
 
+/// The virtual router of an object, where it is there: the default one is none of the objects.
+pub fn router_at(bodies: &Numbered, vr: Option<Rid>) -> Option<Vrf>
+    ensures { result ≡ router_at (numbered bodies.now) vr }
+{
+    let Some(vr) = vr else {
+        return Some(Vrf::Default);
+    };
+    match body_at(bodies, vr) {
+        Some(Body::VirtualRouter { label }) => Some(Vrf::Named(*label)),
+        _ => None,
+    }
+}
+
 /// A bridge port is named by its port.
 fn bridge_port_at(bodies: &Numbered, bridge_port: Rid) -> Option<u16>
     ensures { result ≡ bridge_port_at (numbered bodies.now) bridge_port }
@@ -68,7 +81,7 @@ pub fn rif_at(bodies: &Numbered, rif: Rid) -> Option<Base>
     ensures { result ≡ rif_at (numbered bodies.now) rif }
 {
     match body_at(bodies, rif) {
-        Some(Body::Rif { on }) => base_on(bodies, on),
+        Some(Body::Rif { on, .. }) => base_on(bodies, on),
         _ => None,
     }
 }
@@ -172,14 +185,15 @@ pub fn thing_at(
             up: *up,
         }))),
         Body::Vlan { vlan } => Ok(Some(Thing::Vlan(*vlan))),
+        Body::VirtualRouter { label } => Ok(Some(Thing::VirtualRouter(*label))),
         Body::BridgePort { port } => Ok(port_at(bodies, *port).map(Thing::BridgePort)),
         Body::VlanMember {
             vlan,
             bridge_port,
             tagging,
         } => Ok(member_at(bodies, *vlan, *bridge_port, *tagging)),
-        Body::Rif { on } => Ok(base_on(bodies, on).map(Thing::Rif)),
-        Body::OwnAddress { ip } => Ok(Some(Thing::Own(*ip))),
+        Body::Rif { vr, on } => Ok(interface_at(bodies, *vr, on)),
+        Body::OwnAddress { vr, ip } => Ok(own_at(bodies, *vr, *ip)),
         Body::Neighbor { rif, ip, mac } => Ok(neighbor_at(bodies, *rif, *ip, *mac)),
         Body::NextHop { rif, ip } => Ok(hop_on(bodies, *rif, *ip).map(Thing::NextHop)),
         Body::Group => group_at(alloc, groups, entry),
@@ -188,8 +202,25 @@ pub fn thing_at(
             next_hop,
             weight,
         } => group_member_at(alloc, groups, *group, whop_at(bodies, *next_hop, *weight)),
-        Body::Route { prefix, to } => route_at(alloc, bodies, groups, *prefix, to),
+        Body::Route { vr, prefix, to } => route_at(alloc, bodies, groups, *vr, *prefix, to),
     }
+}
+
+/// A router interface as a thing.
+fn interface_at(bodies: &Numbered, vr: Option<Rid>, on: &RifOn<Rid>) -> Option<Thing>
+    ensures { result ≡ both Thing.Rif (base_on (numbered bodies.now) on.now) (router_at (numbered bodies.now) vr) }
+{
+    let base = base_on(bodies, on)?;
+    let vrf = router_at(bodies, vr)?;
+    Some(Thing::Rif(base, vrf))
+}
+
+/// An address of the switch itself as a thing.
+fn own_at(bodies: &Numbered, vr: Option<Rid>, ip: Ip) -> Option<Thing>
+    ensures { result ≡ option_map (λ v. Thing.Own v ip) (router_at (numbered bodies.now) vr) }
+{
+    let vrf = router_at(bodies, vr)?;
+    Some(Thing::Own(vrf, ip))
 }
 
 /// A route as a thing.
@@ -197,13 +228,17 @@ fn route_at(
     alloc: Global,
     bodies: &Numbered,
     groups: &GroupHops,
+    vr: Option<Rid>,
     prefix: Prefix,
     to: &To<Rid>,
 ) -> Result<Option<Thing>, OutOfMemory>
-    ensures { IfOk result (λ thing. thing ≡ option_map (Thing.Route prefix) (goal_by (hops_of_group groups.now) (numbered bodies.now) to.now)) }
+    ensures { IfOk result (λ thing. thing ≡ both (λ v g. Thing.Route v prefix g) (router_at (numbered bodies.now) vr) (goal_by (hops_of_group groups.now) (numbered bodies.now) to.now)) }
 {
+    let Some(vrf) = router_at(bodies, vr) else {
+        return Ok(None);
+    };
     match goal_at(alloc, bodies, groups, to)? {
-        Some(goal) => Ok(Some(Thing::Route(prefix, goal))),
+        Some(goal) => Ok(Some(Thing::Route(vrf, prefix, goal))),
         None => Ok(None),
     }
 }

@@ -1,17 +1,17 @@
 // What the objects of a list stand for, one by one.
 ghost use Rattle.std.specs.Prelude.{◌≡◌, IfOk};
 ghost use Rattle.std.specs.Option.{is_some};
-ghost use Rattle.sai_types.specs.Named.{goal_by, hops_at, thing_of};
+ghost use Rattle.sai_types.specs.Named.{goal_by, hops_at, router_at, thing_of};
 ghost use Rattle.sai_types.specs.Objects.{Objects};
 ghost use Rattle.chip_names.specs.Naming.{AreNamesOf, entries_of};
 
 use crate::known::Known;
-use crate::names::{GroupHops, group_member_at, leads, thing_at};
+use crate::names::{GroupHops, group_member_at, leads, router_at, thing_at};
 use crate::things::group_hops;
 use sai_types::{Body, Object, Rid, Thing, To};
 use std::alloc::Global;
 use std::marker::Model;
-use swss_types::OutOfMemory;
+use swss_types::{OutOfMemory, Vrf};
 
 /// What the identifiers of some objects stand for.
 #[derive(Drop)]
@@ -70,5 +70,12 @@ impl Names {
         ensures { (objects : Objects) → AreNamesOf objects self.now → result ≡ is_some (goal_by (hops_at objects) objects to.now) }
     {
         leads(&self.known, &self.groups, to)
+    }
+
+    /// The virtual router of an object, where it is there: the default one is none of the objects.
+    pub fn router(&self, vr: Option<Rid>) -> Option<Vrf>
+        ensures { (objects : Objects) → AreNamesOf objects self.now → result ≡ router_at objects vr }
+    {
+        router_at(self.known.bodies(), vr)
     }
 }

@@ -6,7 +6,8 @@ ghost use Rattle.std.specs.Option.{option_or};
 ghost use Rattle.sai_types.specs.Named.{both, named, put_hop, thing_by, those, with_member};
 ghost use Rattle.sai_types.specs.Objects.{body_at, entry_cmp};
 ghost use Rattle.sai_types.specs.declared.ids.Rid.{Rid};
-ghost use Rattle.chip_names.specs.Naming.{AreBodies, AreHops, entries_of, hops_of_group, numbered, thing_cmp, with_hop};
+ghost use Rattle.sai_types.specs.Order.{thing_cmp};
+ghost use Rattle.chip_names.specs.Naming.{AreBodies, AreHops, entries_of, hops_of_group, numbered, with_hop};
 ghost use Rattle.chip_names.specs.Members.{hops_by};
 
 use crate::known::{Known, Numbered};

@@ -15,7 +15,7 @@ use table_schema::{PortPlan, Sent, Write};
 
 /// How many objects of each kind the chip has room for.
 const ROOM: Caps = Caps([
-    256, 4094, 256, 16_384, 1024, 2048, 16_384, 16_384, 512, 16_384, 65_536,
+    256, 4094, 256, 256, 16_384, 1024, 2048, 16_384, 16_384, 512, 16_384, 65_536,
 ]);
 
 /// How many places the log has.

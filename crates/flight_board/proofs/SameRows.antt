@@ -23,7 +23,7 @@ use Rattle.table_schema.specs.contracts.row.RowEq.TheImpl.Laws as equal_row
 use Rattle.table_schema.specs.contracts.row_hop.RowHopPartialEq.TheImpl as hop_eq
 use Rattle.table_schema.specs.contracts.row_hop.RowHopEq.TheImpl.Laws as equal_hop
 use Rattle.sai_types.proofs.Exact.{ip-exact}
-use Rattle.switch_machine.proofs.Equal.{lanes_exact}
+use Rattle.sai_types.proofs.Equal.{lanes_exact}
 
 if_name_exact : (a b : IfName) → name_eq.ghosts.eq a b ≡ true → a ≡ b
 if_name_exact (name.Ethernet m) (name.Ethernet n) h = ap name.Ethernet (eqb-true m n h)

@@ -1,10 +1,11 @@
 -- the start of the operation of an interface's address
-use Rattle.std.proofs.Common.{◌≡◌, ◌⊎◌, inl, inr, ◌||◌, ℕ, Bool, true, false, List, [], ◌∷◌, Option, Some, None, is_some, Result, Ok, Err, OnOk, OnErr, IfErr, if◌then◌else◌, refl, sym, ap, subst, ◌∙◌}
+use Rattle.std.proofs.Common.{◌≡◌, ◌⊎◌, inl, inr, ◌||◌, ℕ, Bool, true, false, List, [], ◌∷◌, Option, Some, None, is_some, Result, Ok, Err, OnOk, OnErr, IfErr, if◌then◌else◌, refl, sym, ap, ap₂, subst, ◌∙◌}
 use Rattle.std.specs.Result.{result_and}
 use Rattle.swss_types.specs.contracts.address.IpEq.TheImpl.Laws as equal_ip
 use Rattle.swss_types.specs.declared.address.Ip.{Ip}
 use Rattle.swss_types.specs.declared.interface.IfName.{IfName}
 use Rattle.swss_types.specs.declared.interface.IfName.TheVariants as on
+use Rattle.swss_types.specs.declared.vrf.Vrf.TheVariants as vrf
 use Rattle.table_schema.specs.Plan.{Ports}
 use Rattle.table_schema.specs.declared.key.Key.{Key}
 use Rattle.table_schema.specs.declared.key.Key.TheVariants as key
@@ -55,23 +56,23 @@ module _ (plan : Ports) (n : IfName) (ip : Ip) (len : ℕ) where
 
   -- what the row of an address shares is its own address, if anything
   abbrev IsOwn : Option Name → Type 0
-  IsOwn shared = (shared ≡ None) ⊎ (shared ≡ Some (name.Own ip))
+  IsOwn shared = (shared ≡ None) ⊎ (shared ≡ Some (name.Own vrf.Default ip))
 
-  owned : (m : Name) → Own ip ≡ owner_for m → Some m ≡ Some (name.Own ip)
+  owned : (m : Name) → Own vrf.Default ip ≡ owner_for m → Some m ≡ Some (name.Own vrf.Default ip)
   owned (name.Row q) h = absurd cc
   owned (name.BridgePort lane) h = absurd cc
-  owned (name.Own q) h = let same : ip ≡ q = cc in ap (λ z. Some (name.Own z)) (sym same)
+  owned (name.Own v q) h = let at : vrf.Default ≡ v = cc in let same : ip ≡ q = cc in ap₂ (λ w z. Some (name.Own w z)) (sym at) (sym same)
   owned (name.Group hops) h = absurd cc
 
-  own-one : (shared : Option Name) → Own ip ∷ [] ≡ owners_of shared → IsOwn shared
+  own-one : (shared : Option Name) → Own vrf.Default ip ∷ [] ≡ owners_of shared → IsOwn shared
   own-one None h = absurd cc
-  own-one (Some m) h = let same : Own ip ≡ owner_for m = cc in inr (owned m same)
+  own-one (Some m) h = let same : Own vrf.Default ip ≡ owner_for m = cc in inr (owned m same)
 
   own-none : (shared : Option Name) → [] ≡ owners_of shared → IsOwn shared
   own-none None h = inl refl
   own-none (Some m) h = absurd cc
 
-  own-from : (o : Option ℕ) (shared : Option Name) → from o (λ lane. Own ip ∷ []) ≡ owners_of shared → IsOwn shared
+  own-from : (o : Option ℕ) (shared : Option Name) → from o (λ lane. Own vrf.Default ip ∷ []) ≡ owners_of shared → IsOwn shared
   own-from None shared h = own-none shared h
   own-from (Some lane) shared h = own-one shared h
 
@@ -107,22 +108,22 @@ module _ (plan : Ports) (n : IfName) (ip : Ip) (len : ℕ) where
   same-uses row.Addr _ old fits = elim fits [ ]
   same-uses _ r old fits = elim old [ ]
 
-  here-by : (b : Bool) → built_here (built_of (Some (name.Own ip)) b) [] ≡ own_due ip (own_stage b)
+  here-by : (b : Bool) → built_here (built_of (Some (name.Own vrf.Default ip)) b) [] ≡ own_due ip (own_stage b)
   here-by true = refl
   here-by false = refl
 
-  first-by : (b : Bool) → built_first (built_of (Some (name.Own ip)) b) [] ≡ own_due ip (own_stage b)
+  first-by : (b : Bool) → built_first (built_of (Some (name.Own vrf.Default ip)) b) [] ≡ own_due ip (own_stage b)
   first-by true = refl
   first-by false = refl
 
   module _ (names : Names) where
     built-here : (shared : Option Name) → IsOwn shared → built_here (built_of shared (lacks_shared names shared)) [] ≡ own_due ip (own_stage (lacks_shared names shared))
     built-here shared (inl e) = rw e refl
-    built-here shared (inr e) = rw e (here-by (lacks_shared names (Some (name.Own ip))))
+    built-here shared (inr e) = rw e (here-by (lacks_shared names (Some (name.Own vrf.Default ip))))
 
     built-first : (shared : Option Name) → IsOwn shared → built_first (built_of shared (lacks_shared names shared)) [] ≡ own_due ip (own_stage (lacks_shared names shared))
     built-first shared (inl e) = rw e refl
-    built-first shared (inr e) = rw e (first-by (lacks_shared names (Some (name.Own ip))))
+    built-first shared (inr e) = rw e (first-by (lacks_shared names (Some (name.Own vrf.Default ip))))
 
     live-builds : (shared : Option Name) → IsLive names shared → lacks_shared names shared ≡ false
     live-builds None live = refl
@@ -131,7 +132,7 @@ module _ (plan : Ports) (n : IfName) (ip : Ip) (len : ℕ) where
     -- a row that is the same leaves nothing
     keeps : (shared : Option Name) → IsOwn shared → first_left (owners_of shared) (owners_of shared) ≡ None
     keeps shared (inl e) = rw e refl
-    keeps shared (inr e) = rw e (ap (λ b. if b || false then None else Some (Own ip)) (equal_ip.laws-law.refl ip))
+    keeps shared (inr e) = rw e (ap (λ b. if b || false then None else Some (Own vrf.Default ip)) (equal_ip.laws-law.refl ip))
 
     module _ (room : RoomState) (used : List ℕ) (worker : ℕ) where
       -- a row that is to be applied
@@ -208,9 +209,9 @@ module _ (plan : Ports) (n : IfName) (ip : Ip) (len : ℕ) where
       pub live-later : (a : Row) (shared : Option Name) → uses plan k a ≡ owners_of shared → MayStart plan names worker k (Some a) None → IsLive names shared
       live-later a shared shares may = is-live plan names k a shared shares may.shared
 
-      retired-as : (stage : OwnStage) → IsRetired later worker k (Some (name.Own ip)) stage → intf_operation worker true false (subject.Addr n ip len stage) ≡ started_by later worker k (Some row.Addr) None [] (Some (Own ip))
-      retired-as own.Goes h = operation-is worker (subject.Addr n ip len own.Goes) (Some row.Addr) None (taken_here (retired_by later worker k (Own ip))) (retired_by later worker k (Own ip)) refl refl (ap taken_here (sym h)) (sym h)
-      retired-as own.Stays h = operation-is worker (subject.Addr n ip len own.Stays) (Some row.Addr) None (taken_here (retired_by later worker k (Own ip))) (retired_by later worker k (Own ip)) refl refl (ap taken_here (sym h)) (sym h)
+      retired-as : (stage : OwnStage) → IsRetired later worker k (Some (name.Own vrf.Default ip)) stage → intf_operation worker true false (subject.Addr n ip len stage) ≡ started_by later worker k (Some row.Addr) None [] (Some (Own vrf.Default ip))
+      retired-as own.Goes h = operation-is worker (subject.Addr n ip len own.Goes) (Some row.Addr) None (taken_here (retired_by later worker k (Own vrf.Default ip))) (retired_by later worker k (Own vrf.Default ip)) refl refl (ap taken_here (sym h)) (sym h)
+      retired-as own.Stays h = operation-is worker (subject.Addr n ip len own.Stays) (Some row.Addr) None (taken_here (retired_by later worker k (Own vrf.Default ip))) (retired_by later worker k (Own vrf.Default ip)) refl refl (ap taken_here (sym h)) (sym h)
       retired-as own.Comes h = elim h [ ]
       retired-as own.Gone h = elim h [ ]
 

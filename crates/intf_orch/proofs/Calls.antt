@@ -4,6 +4,7 @@ use Rattle.std.proofs.lemmas.Bool.{false≢true}
 use Rattle.swss_types.specs.declared.address.Ip.{Ip}
 use Rattle.swss_types.specs.declared.interface.IfName.{IfName}
 use Rattle.swss_types.specs.declared.interface.IfName.TheVariants as on
+use Rattle.swss_types.specs.declared.vrf.Vrf.TheVariants as vrf
 use Rattle.swss_types.proofs.Proper.{mapped}
 use Rattle.table_schema.specs.Plan.{IsPlan, Ports}
 use Rattle.table_schema.specs.declared.key.Key.TheVariants as key
@@ -47,23 +48,23 @@ intf_operation_told f worker applied wanted s s' view is = sym view ∙ ap (intf
 
 module _ (plan : Ports) (names : Names) (n : IfName) (b : Base) where
   -- what is of an interface stands on what the interface stands on
-  in-one : (u : Thing) (m : Base) → IsIn u (thing.Rif m ∷ []) → name_of u ≡ thing_name.Rif b → (u ≡ thing.Rif b) × (m ≡ b)
-  in-one u m (inl e) named = let same : m ≡ b = cc in (e ∙ ap thing.Rif same, same)
+  in-one : (u : Thing) (m : Base) → IsIn u (thing.Rif m vrf.Default ∷ []) → name_of u ≡ thing_name.Rif b → (u ≡ thing.Rif b vrf.Default) × (m ≡ b)
+  in-one u m (inl e) named = let same : m ≡ b = cc in (e ∙ ap (λ z. thing.Rif z vrf.Default) same, same)
   in-one u m (inr h) named = elim h [ ]
 
-  in-from : (o : Option Base) (u : Thing) → IsIn u (from o (λ m. thing.Rif m ∷ [])) → name_of u ≡ thing_name.Rif b → (u ≡ thing.Rif b) × (o ≡ Some b)
+  in-from : (o : Option Base) (u : Thing) → IsIn u (from o (λ m. thing.Rif m vrf.Default ∷ [])) → name_of u ≡ thing_name.Rif b → (u ≡ thing.Rif b vrf.Default) × (o ≡ Some b)
   in-from None u h named = elim h [ ]
   in-from (Some m) u h named = let is = in-one u m h named in (is.0, ap Some is.1)
 
-  held-from : (o : Option Base) (u : Thing) → IsIn u (from o (λ m. thing.Rif m ∷ []) ++ []) → IsIn u (from o (λ m. thing.Rif m ∷ []))
+  held-from : (o : Option Base) (u : Thing) → IsIn u (from o (λ m. thing.Rif m vrf.Default ∷ []) ++ []) → IsIn u (from o (λ m. thing.Rif m vrf.Default ∷ []))
   held-from None u h = h
   held-from (Some m) u h = h
 
-  of-row : (applied : Bool) (u : Thing) → IsIn u (own_of plan (key.Intf n) (row_where applied row.Intf)) → name_of u ≡ thing_name.Rif b → (u ≡ thing.Rif b) × (base_of plan n ≡ Some b)
+  of-row : (applied : Bool) (u : Thing) → IsIn u (own_of plan (key.Intf n) (row_where applied row.Intf)) → name_of u ≡ thing_name.Rif b → (u ≡ thing.Rif b vrf.Default) × (base_of plan n ≡ Some b)
   of-row true u h named = in-from (base_of plan n) u h named
   of-row false u h named = elim h [ ]
 
-  of-held : (applied : Bool) (u : Thing) → IsIn u (own_of plan (key.Intf n) (row_where applied row.Intf) ++ []) → name_of u ≡ thing_name.Rif b → (u ≡ thing.Rif b) × (base_of plan n ≡ Some b)
+  of-held : (applied : Bool) (u : Thing) → IsIn u (own_of plan (key.Intf n) (row_where applied row.Intf) ++ []) → name_of u ≡ thing_name.Rif b → (u ≡ thing.Rif b vrf.Default) × (base_of plan n ≡ Some b)
   of-held true u h named = in-from (base_of plan n) u (held-from (base_of plan n) u h) named
   of-held false u h named = elim h [ ]
 
@@ -73,18 +74,18 @@ module _ (plan : Ports) (names : Names) (n : IfName) (b : Base) where
       let lane = mapped base.Port (lane_of plan p) b at in
       let there : HasVid plan names (thing_name.base_name b) v = subst (λ z. HasVid plan names (thing_name.base_name z) v) lane.2 (ap (λ o. row_vid names (option_map key.Port o)) (port_by plan plans p lane.0 lane.1) ∙ known) in
       subst (IsNextOf plan names (intf_operation worker applied wanted (subject.Intf n (rif.Comes b)))) (sym is)
-      (Make (thing.Rif b), [], refl, record { body = body.Rif (rif_on.Port v); of = record { first = v; second = v; first_at = there; second_at = tt; body_is = ap (λ z. body.Rif (on_with z v)) lane.2 }; is = refl })
+      (Make (thing.Rif b vrf.Default), [], refl, record { body = body.Rif None (rif_on.Port v); of = record { first = v; second = v; first_at = there; second_at = tt; body_is = ap (λ z. body.Rif None (on_with z v)) lane.2 }; is = refl })
   making plans (on.Vlan vlan) at x (v, known, is) worker applied wanted =
       let same : base.Vlan vlan ≡ b = cc in
       subst (IsNextOf plan names (intf_operation worker applied wanted (subject.Intf n (rif.Comes b)))) (sym is)
-      (Make (thing.Rif b), [], refl, record { body = body.Rif (rif_on.Vlan v); of = record { first = v; second = v; first_at = subst (λ z. HasVid plan names (thing_name.base_name z) v) same known; second_at = tt; body_is = ap (λ z. body.Rif (on_with z v)) same }; is = refl })
+      (Make (thing.Rif b vrf.Default), [], refl, record { body = body.Rif None (rif_on.Vlan v); of = record { first = v; second = v; first_at = subst (λ z. HasVid plan names (thing_name.base_name z) v) same known; second_at = tt; body_is = ap (λ z. body.Rif None (on_with z v)) same }; is = refl })
   making plans (on.Loopback number) at x is worker applied wanted = absurd cc
 
   comes : (worker : ℕ) (applied wanted : Bool) (x : Next) → IsMadeOn names n x → IsOver plan (intf_operation worker applied wanted (subject.Intf n (rif.Comes b))) → IsNextOf plan names (intf_operation worker applied wanted (subject.Intf n (rif.Comes b))) x
   comes worker applied wanted x made over = making over.plans n (by wanted over.next) x made worker applied wanted
     where
-      by : (w : Bool) → IsChangeFor plan (intf_operation worker applied w (subject.Intf n (rif.Comes b))) (Make (thing.Rif b) ∷ []) → base_of plan n ≡ Some b
-      by w (inl h) = (of-row w (thing.Rif b) h refl).1
+      by : (w : Bool) → IsChangeFor plan (intf_operation worker applied w (subject.Intf n (rif.Comes b))) (Make (thing.Rif b vrf.Default) ∷ []) → base_of plan n ≡ Some b
+      by w (inl h) = (of-row w (thing.Rif b vrf.Default) h refl).1
       by true (inr h) = elim h.1 [ ]
       by false (inr h) = elim h.1 [ ]
 
@@ -96,12 +97,12 @@ module _ (plan : Ports) (names : Names) (n : IfName) (b : Base) where
         [],
         refl,
         record {
-          old = thing.Rif b;
+          old = thing.Rif b vrf.Default;
           there = subst (λ z. IsIn z (things_held plan (intf_operation worker applied wanted (subject.Intf n (rif.Goes b))))) of.0 old.1;
           same = refl;
           entry = entry.Oid v;
           of = record {
-            body = body.Rif (on_with b v);
+            body = body.Rif None (on_with b v);
             of = record { first = v; second = v; first_at = λ e. elim e [ ]; second_at = tt; body_is = refl };
             id = v;
             numbered = λ e. ap (λ o. row_vid names (option_map key.Intf o)) (interface_by plan over.plans n b of.1) ∙ known;
@@ -133,10 +134,10 @@ module _ (names : Names) (worker : ℕ) (applied wanted : Bool) (f : Operation) 
     abbrev some_id : Vid
     some_id = record { 0 = 0 }
 
-    own-body : {at : thing_name.ThingName → Vid → Type 0} → IsBody at (thing.Own ip) (body.OwnAddress ip)
+    own-body : {at : thing_name.ThingName → Vid → Type 0} → IsBody at (thing.Own vrf.Default ip) (body.OwnAddress None ip)
     own-body = record { first = some_id; second = some_id; first_at = tt; second_at = tt; body_is = refl }
 
-    held-own : (plan : Ports) (applied : Bool) → IsIn (thing.Own ip) (things_held plan (intf_operation worker applied wanted (subject.Addr n ip len own.Goes)))
+    held-own : (plan : Ports) (applied : Bool) → IsIn (thing.Own vrf.Default ip) (things_held plan (intf_operation worker applied wanted (subject.Addr n ip len own.Goes)))
     held-own plan true = inl refl
     held-own plan false = inl refl
 
@@ -145,17 +146,17 @@ module _ (names : Names) (worker : ℕ) (applied wanted : Bool) (f : Operation) 
       where
         by : (s : OwnStage) → IsNextOf plan names (intf_operation worker applied wanted (subject.Addr n ip len s)) (own_next ip s)
         by own.Stays = refl
-        by own.Comes = (Make (thing.Own ip), [], refl, record { body = body.OwnAddress ip; of = own-body; is = refl })
+        by own.Comes = (Make (thing.Own vrf.Default ip), [], refl, record { body = body.OwnAddress None ip; of = own-body; is = refl })
         by own.Goes = (
-          Take (thing_name.Own ip),
+          Take (thing_name.Own vrf.Default ip),
           [],
           refl,
           record {
-            old = thing.Own ip;
+            old = thing.Own vrf.Default ip;
             there = held-own plan applied;
             same = refl;
-            entry = entry.Own ip;
-            of = record { body = body.OwnAddress ip; of = own-body; id = some_id; numbered = λ e. absurd (false≢true e); is = refl };
+            entry = entry.Own None ip;
+            of = record { body = body.OwnAddress None ip; of = own-body; id = some_id; numbered = λ e. absurd (false≢true e); is = refl };
             is = refl;
           },
         )

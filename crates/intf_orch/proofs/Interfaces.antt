@@ -2,6 +2,7 @@
 use Rattle.std.proofs.Common.{◌≡◌, ℕ, true, false, List, [], ◌∷◌, Option, Some, None, is_some, Result, Ok, OnOk, OnErr, IfErr, if◌then◌else◌, refl, sym, ap, ◌∙◌}
 use Rattle.std.specs.Result.{result_and}
 use Rattle.swss_types.specs.declared.interface.IfName.{IfName}
+use Rattle.swss_types.specs.declared.vrf.Vrf.TheVariants as vrf
 use Rattle.table_schema.specs.Names.{base_names}
 use Rattle.table_schema.specs.Plan.{Ports}
 use Rattle.table_schema.specs.declared.key.Key.TheVariants as key
@@ -31,11 +32,11 @@ use Rattle.intf_orch.specs.declared.stage.Subject.{Subject}
 use Rattle.intf_orch.specs.declared.stage.Subject.TheVariants as subject
 use Rattle.intf_orch.proofs.Operations.{Starts, operation-plain}
 
-due-comes : (o : Option Base) → make_all (from o (λ b. thing.Rif b ∷ [])) [] ≡ rif_due (coming o)
+due-comes : (o : Option Base) → make_all (from o (λ b. thing.Rif b vrf.Default ∷ [])) [] ≡ rif_due (coming o)
 due-comes None = refl
 due-comes (Some b) = refl
 
-due-goes : (o : Option Base) → take_all (from o (λ b. thing.Rif b ∷ [])) [] ≡ rif_due (rif_going o)
+due-goes : (o : Option Base) → take_all (from o (λ b. thing.Rif b vrf.Default ∷ [])) [] ≡ rif_due (rif_going o)
 due-goes None = refl
 due-goes (Some b) = refl
 
@@ -50,9 +51,9 @@ module _ (plan : Ports) (n : IfName) where
   row-is row.Intf fits = refl
   row-is _ fits = elim fits [ ]
 
-  same-things : (o : Option Base) → set_all (from o (λ b. thing.Rif b ∷ [])) (from o (λ b. thing.Rif b ∷ [])) ≡ []
+  same-things : (o : Option Base) → set_all (from o (λ b. thing.Rif b vrf.Default ∷ [])) (from o (λ b. thing.Rif b vrf.Default ∷ [])) ≡ []
   same-things None = refl
-  same-things (Some b) = ap (λ e. if e then [] else Set (thing.Rif b) ∷ []) (equal_thing.laws-law.refl (thing.Rif b))
+  same-things (Some b) = ap (λ e. if e then [] else Set (thing.Rif b vrf.Default) ∷ []) (equal_thing.laws-law.refl (thing.Rif b vrf.Default))
 
   -- what is due of an interface's own
   added-due : (r : Row) → Fits plan (key.Intf n) r → own_changes plan (key.Intf n) None (Some r) ≡ rif_due (coming (base_of plan n))

@@ -1,6 +1,7 @@
 -- what becomes of an operation of INTF_TABLE when the call that is due has taken effect
 use Rattle.std.proofs.Common.{◌≡◌, ℕ, Bool, [], Option, refl, subst}
 use Rattle.swss_types.specs.declared.interface.IfName.{IfName}
+use Rattle.swss_types.specs.declared.vrf.Vrf.TheVariants as vrf
 use Rattle.table_schema.specs.declared.key.Key.TheVariants as key
 use Rattle.sai_types.specs.declared.ids.Vid.{Vid}
 use Rattle.sai_types.specs.declared.thing.Thing.TheVariants as thing
@@ -20,5 +21,5 @@ module _ (names : Names) (worker : ℕ) (applied wanted : Bool) (made : Option V
       where
         by : (s : RifStage) → MayTake (intf_operation worker applied wanted (subject.Intf n s)) made names → MayBuildRif names worker n s made
         by rif.Stays m = tt
-        by (rif.Comes b) m = let builds = m.builds (thing.Rif b) [] (name.Row (key.Intf n)) refl refl in (m.numbered (thing.Rif b) [] refl, builds.0, builds.1)
+        by (rif.Comes b) m = let builds = m.builds (thing.Rif b vrf.Default) [] (name.Row (key.Intf n)) refl refl in (m.numbered (thing.Rif b vrf.Default) [] refl, builds.0, builds.1)
         by (rif.Goes b) m = tt

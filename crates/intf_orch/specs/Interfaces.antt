@@ -3,6 +3,7 @@ use Rattle.std.specs.Prelude.{◌≡◌, ◌≤◌, ℕ, Bool, true, false, List
 use Rattle.swss_types.specs.declared.address.Ip.{Ip}
 use Rattle.swss_types.specs.declared.interface.IfName.{IfName}
 use Rattle.swss_types.specs.declared.interface.IfName.TheVariants as on
+use Rattle.swss_types.specs.declared.vrf.Vrf.TheVariants as vrf
 use Rattle.table_schema.specs.Names.{base_names}
 use Rattle.table_schema.specs.declared.key.Key.{Key}
 use Rattle.table_schema.specs.declared.key.Key.TheVariants as key
@@ -60,13 +61,13 @@ row_where false r = None
 -- the router interface is made, or removed
 abbrev pub rif_due : RifStage → List Change
 rif_due rif.Stays = []
-rif_due (rif.Comes b) = Make (thing.Rif b) ∷ []
+rif_due (rif.Comes b) = Make (thing.Rif b vrf.Default) ∷ []
 rif_due (rif.Goes b) = Take (thing_name.Rif b) ∷ []
 
 -- and so is the own address
 abbrev pub own_due : Ip → OwnStage → List Change
-own_due ip own.Comes = Make (thing.Own ip) ∷ []
-own_due ip own.Goes = Take (thing_name.Own ip) ∷ []
+own_due ip own.Comes = Make (thing.Own vrf.Default ip) ∷ []
+own_due ip own.Goes = Take (thing_name.Own vrf.Default ip) ∷ []
 own_due ip _ = []
 
 abbrev pub due_of : Subject → List Change
@@ -75,8 +76,8 @@ due_of (subject.Addr n ip len stage) = own_due ip stage
 
 -- the own address is taken away with its last row
 abbrev pub retired : Ip → OwnStage → Option Owner
-retired ip own.Goes = Some (Own ip)
-retired ip own.Gone = Some (Own ip)
+retired ip own.Goes = Some (Own vrf.Default ip)
+retired ip own.Gone = Some (Own vrf.Default ip)
 retired ip _ = None
 
 abbrev pub retires_of : Subject → Option Owner
@@ -131,8 +132,8 @@ base_keys n = map name.Row (base_names n)
 
 -- the call that makes a router interface on what has this name
 abbrev pub IsMadeOn : Names → IfName → Next → Type 0
-IsMadeOn names (on.Ethernet port) n = (v : Vid) × (first_of (ids_of names (name.Row (key.Port port))) ≡ Some v) × (n ≡ next.Call (call.Create (body.Rif (rif_on.Port v))))
-IsMadeOn names (on.Vlan vlan) n = (v : Vid) × (first_of (ids_of names (name.Row (key.Vlan vlan))) ≡ Some v) × (n ≡ next.Call (call.Create (body.Rif (rif_on.Vlan v))))
+IsMadeOn names (on.Ethernet port) n = (v : Vid) × (first_of (ids_of names (name.Row (key.Port port))) ≡ Some v) × (n ≡ next.Call (call.Create (body.Rif None (rif_on.Port v))))
+IsMadeOn names (on.Vlan vlan) n = (v : Vid) × (first_of (ids_of names (name.Row (key.Vlan vlan))) ≡ Some v) × (n ≡ next.Call (call.Create (body.Rif None (rif_on.Vlan v))))
 IsMadeOn names (on.Loopback number) n = n ≡ next.End
 
 abbrev pub KnowsRif : Names → IfName → RifStage → Type 0
@@ -148,8 +149,8 @@ IsRifNext names n (rif.Goes b) x = (v : Vid) × (first_of (ids_of names (name.Ro
 
 -- and for an own address
 abbrev pub own_next : Ip → OwnStage → Next
-own_next ip own.Comes = next.Call (call.Create (body.OwnAddress ip))
-own_next ip own.Goes = next.Call (call.Remove (entry.Own ip))
+own_next ip own.Comes = next.Call (call.Create (body.OwnAddress None ip))
+own_next ip own.Goes = next.Call (call.Remove (entry.Own None ip))
 own_next ip _ = next.End
 
 -- ---- answers
@@ -164,12 +165,12 @@ rif_names names n (rif.Comes b) made = changed names (name.Row (key.Intf n)) (ma
 rif_names names n _ made = names
 
 abbrev pub MayBuildOwn : Names → ℕ → Ip → OwnStage → Type 0
-MayBuildOwn names worker ip own.Comes = state_of names (name.Own ip) ≡ state.Building worker
+MayBuildOwn names worker ip own.Comes = state_of names (name.Own vrf.Default ip) ≡ state.Building worker
 MayBuildOwn names worker ip _ = Unit {0}
 
 abbrev pub names_after_own : Names → Ip → OwnStage → Names
-names_after_own names ip own.Comes = changed names (name.Own ip) (made_live [])
-names_after_own names ip _ = gone_from names (name.Own ip)
+names_after_own names ip own.Comes = changed names (name.Own vrf.Default ip) (made_live [])
+names_after_own names ip _ = gone_from names (name.Own vrf.Default ip)
 
 abbrev pub own_after : OwnStage → OwnStage
 own_after own.Comes = own.Stays

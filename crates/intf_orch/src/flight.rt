@@ -17,7 +17,7 @@ use ref_counts::{Name, Next, Registry, Room};
 use sai_types::{Body, Call, Entry, KindCounts, RifOn, Vid};
 use std::marker::Model;
 use switch_model::Wait;
-use swss_types::{IfName, Ip, OutOfMemory};
+use swss_types::{IfName, Ip, OutOfMemory, Vrf};
 use table_schema::{Key, PortPlan, Row};
 
 /// The operation of an interface, whose router interface is made or removed, or of an interface's address, whose own address
@@ -147,8 +147,8 @@ fn next_own(ip: &Ip, stage: OwnStage) -> Next
     ensures { result ≡ own_next ip.now stage }
 {
     match stage {
-        OwnStage::Comes => Next::Call(Call::Create(Body::OwnAddress { ip: *ip })),
-        OwnStage::Goes => Next::Call(Call::Remove(Entry::Own(*ip))),
+        OwnStage::Comes => Next::Call(Call::Create(Body::OwnAddress { vr: None, ip: *ip })),
+        OwnStage::Goes => Next::Call(Call::Remove(Entry::Own(None, *ip))),
         OwnStage::Stays | OwnStage::Gone => Next::End,
     }
 }
@@ -163,7 +163,7 @@ fn make_rif(reg: &Registry, on: IfName) -> Next
         IfName::Vlan(vlan) => RifOn::Vlan(vid(reg, &Name::Row(Key::Vlan(vlan)))),
         IfName::Loopback(_) => return Next::End,
     };
-    Next::Call(Call::Create(Body::Rif { on }))
+    Next::Call(Call::Create(Body::Rif { vr: None, on }))
 }
 
 /// Makes an interface's name live once its router interface is made.
@@ -186,11 +186,11 @@ fn took_own(worker: u32, ip: &Ip, stage: OwnStage, reg: &mut Registry) -> OwnSta
 {
     match stage {
         OwnStage::Comes => {
-            reg.built(worker, &Name::Own(*ip), &[]);
+            reg.built(worker, &Name::Own(Vrf::Default, *ip), &[]);
             OwnStage::Stays
         }
         _ => {
-            reg.gone(&Name::Own(*ip));
+            reg.gone(&Name::Own(Vrf::Default, *ip));
             OwnStage::Gone
         }
     }

@@ -64,7 +64,7 @@ pub fn rif_places(base: Option<Base>) -> KindCounts
     ensures { result ≡ places_for (rif_due (coming base)) }
 {
     match base {
-        Some(_) => [0, 0, 0, 0, 1, 0, 0, 0, 0, 0, 0],
+        Some(_) => [0, 0, 0, 0, 0, 1, 0, 0, 0, 0, 0, 0],
         None => [0; KINDS],
     }
 }
@@ -85,7 +85,7 @@ pub fn own_places(_ip: &Ip, builds: bool) -> KindCounts
     ensures { result ≡ places_for (own_due _ip.now (own_stage builds)) }
 {
     if builds {
-        [0, 0, 0, 0, 0, 1, 0, 0, 0, 0, 0]
+        [0, 0, 0, 0, 0, 0, 1, 0, 0, 0, 0, 0]
     } else {
         [0; KINDS]
     }

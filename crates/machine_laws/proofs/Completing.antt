@@ -99,7 +99,7 @@ change_made stands made (Take n) call of = record { id = next_rid made; given = 
 some_going : (o : Owner) → IsShared o → 0 < length (take_all (shared_going o) [])
 some_going (owner.OfRow k) h = elim h [ ]
 some_going (owner.Bridge lane) h = omega arith
-some_going (owner.Own ip) h = omega arith
+some_going (owner.Own v ip) h = omega arith
 some_going (owner.Group hops) h = more (members_of hops hops)
   where
     more : (ts : List Thing) → 0 < length (take_all (ts ++ (thing.Group hops ∷ [])) [])

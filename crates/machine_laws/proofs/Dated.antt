@@ -11,6 +11,7 @@ use Rattle.sai_types.specs.declared.ids.Rid.{Rid}
 use Rattle.sai_types.specs.declared.body.Call.{Call}
 use Rattle.sai_types.specs.declared.thing.Thing.TheVariants as thing
 use Rattle.swss_types.specs.declared.address.Prefix.{Prefix}
+use Rattle.swss_types.specs.declared.vrf.Vrf.{Vrf}
 use Rattle.sai_types.specs.declared.thing.Goal.{Goal}
 use Rattle.sai_types.specs.After.{after_call, chip_after}
 use Rattle.sai_types.specs.Made.{made_after}
@@ -63,31 +64,31 @@ module _ (plan : Ports) (is : IsPlan plan) (workers : ℕ) (capacities : List �
     rounds : Rounds s.log
 
   -- a route of a row that was good once is of a row that was written
-  pub route_dated : (taken : List Sent) (writes : List Write) (prefix : Prefix) (goal : Goal) (r : Row) → writes ≡ sent_writes taken → IsGoodOnce plan writes (key.Route prefix) r → IsIn (thing.Route prefix goal) (own_things plan (key.Route prefix) r) → (n : ℕ) × (row : Row) × (n ≤ length taken) × (good_rows_at plan taken n (key.Route prefix) ≡ Some row) × IsIn (thing.Route prefix goal) (things_of plan (key.Route prefix) row)
-  route_dated taken writes prefix goal r same good in_it = let when = logged_once taken writes (key.Route prefix) r same good in (when.0, r, when.1, when.2, (things-split plan (key.Route prefix) r).back (thing.Route prefix goal) (inl in_it))
+  pub route_dated : (taken : List Sent) (writes : List Write) (v : Vrf) (prefix : Prefix) (goal : Goal) (r : Row) → writes ≡ sent_writes taken → IsGoodOnce plan writes (key.Route prefix) r → IsIn (thing.Route v prefix goal) (own_things plan (key.Route prefix) r) → (n : ℕ) × (row : Row) × (n ≤ length taken) × (good_rows_at plan taken n (key.Route prefix) ≡ Some row) × IsIn (thing.Route v prefix goal) (things_of plan (key.Route prefix) row)
+  route_dated taken writes v prefix goal r same good in_it = let when = logged_once taken writes (key.Route prefix) r same good in (when.0, r, when.1, when.2, (things-split plan (key.Route prefix) r).back (thing.Route v prefix goal) (inl in_it))
 
   -- the routes on the chip are of rows that are applied or to be
   pub routes-now : (c : SwitchState) (taken : List Sent) → IsSafe plan workers capacities c → c.written.taken ≡ sent_writes taken → RoutesAreOfRows plan taken c.objects
-  routes-now c taken kept same prefix goal h =
-      let stands = route-stands plan c.machine kept.sound c.made c.objects kept.whole kept.laid prefix goal h in
-      let row = route-row plan is workers capacities c kept prefix goal stands in
-      route_dated taken c.written.taken prefix goal row.0 same (kept.good (key.Route prefix) row.0 row.1) row.2
+  routes-now c taken kept same v prefix goal h =
+      let stands = route-stands plan c.machine kept.sound c.made c.objects kept.whole kept.laid v prefix goal h in
+      let row = route-row plan is workers capacities c kept v prefix goal stands in
+      route_dated taken c.written.taken v prefix goal row.0 same (kept.good (key.Route prefix) row.0 row.1) row.2
 
   -- and so they are after a call that was due took effect, whether it was answered so or not
   pub routes-called : (c : SwitchState) (taken : List Sent) (call : Call Rid) → IsSafe plan workers capacities c → IsDueCall workers call c → c.written.taken ≡ sent_writes taken → RoutesAreOfRows plan taken (after_call (c.made + 1) c.objects call)
-  routes-called c taken call kept due same prefix goal h =
+  routes-called c taken call kept due same v prefix goal h =
       let z = change_made c.machine.stands c.made due.change call due.of in
       let m : Machine = moved c.machine due.worker due.rest z.later in
       let sound = called-sound plan is workers capacities c kept call due z.id z.given z.later z.into z.back in
       let laid = called-laid plan is workers capacities c kept call due z.id z.given z.later z.into z.back in
       let whole = whole-after_call capacities c.made c.objects call kept.whole (legal-call plan is workers capacities c kept call due) in
-      let stands = route-stands plan m sound (made_after c.made call) (after_call (c.made + 1) c.objects call) whole laid prefix goal h in
-      let row = row-of_route plan m sound prefix goal stands in
-      route_dated taken c.written.taken prefix goal row.0 same (kept.good (key.Route prefix) row.0 row.1) row.2
+      let stands = route-stands plan m sound (made_after c.made call) (after_call (c.made + 1) c.objects call) whole laid v prefix goal h in
+      let row = row-of_route plan m sound v prefix goal stands in
+      route_dated taken c.written.taken v prefix goal row.0 same (kept.good (key.Route prefix) row.0 row.1) row.2
 
   pub later_routes : (taken : List Sent) (sent : Sent) (objects : Objects) → RoutesAreOfRows plan taken objects → RoutesAreOfRows plan (taken ++ sent ∷ []) objects
-  later_routes taken sent objects f prefix goal h =
-      let x = f prefix goal h in
+  later_routes taken sent objects f v prefix goal h =
+      let x = f v prefix goal h in
       (x.0, x.1, (let le = x.2 in omega (arith, le, length-append taken (sent ∷ []))), ap (λ (z : TypedRows). z (key.Route prefix)) (good-front plan taken sent x.0 x.2) ∙ x.3, x.4)
 
   -- routes that were of rows are so of a log that holds as many writes, over the same effects
@@ -120,7 +121,7 @@ module _ (plan : Ports) (is : IsPlan plan) (workers : ℕ) (capacities : List �
   dated_log s (t ∷ ts) x run = dated_log t ts (dated_event s t x run.0) run.1
 
   dated_new : Dated new_switch
-  dated_new = record { told = told-new plan is workers capacities; routes = λ j le prefix goal h. elim (subst (λ z. IsIn (Some (thing.Route prefix goal)) (named z)) (nothing j) h) [ ]; rounds = record { settled = tt; ends = refl } }
+  dated_new = record { told = told-new plan is workers capacities; routes = λ j le v prefix goal h. elim (subst (λ z. IsIn (Some (thing.Route v prefix goal)) (named z)) (nothing j) h) [ ]; rounds = record { settled = tt; ends = refl } }
     where
       nothing : (n : ℕ) → chip_after [] n ≡ []
       nothing zero = refl

@@ -5,6 +5,7 @@ use Rattle.std.proofs.lemmas.Option.{same_Some}
 use Rattle.swss_types.specs.declared.interface.IfName.{IfName}
 use Rattle.swss_types.specs.declared.interface.IfName.TheVariants as on
 use Rattle.swss_types.specs.declared.address.Ip.{Ip}
+use Rattle.swss_types.specs.declared.vrf.Vrf.TheVariants as vrf
 use Rattle.table_schema.specs.Fields.{Pairs}
 use Rattle.table_schema.specs.Plan.{Ports}
 use Rattle.table_schema.specs.declared.key.Key.{Key}
@@ -73,9 +74,9 @@ own_few : (plan : Ports) (k : Key) (r : Row) → length (own_things plan k r) �
 own_few plan (key.Port port) (row.Port r) = from_few 3 (lane_of plan port) (λ lane. thing.Port (record { lanes = r.lanes; speed = r.speed; mtu = r.mtu; up = r.up }) ∷ []) (λ lane. omega arith)
 own_few plan (key.Vlan vlan) row.Vlan = omega arith
 own_few plan (key.Member vlan port) (row.Member tagging) = from_few 3 (lane_of plan port) (λ lane. thing.VlanMember vlan lane tagging ∷ []) (λ lane. omega arith)
-own_few plan (key.Intf n) row.Intf = from_few 3 (base_of plan n) (λ b. thing.Rif b ∷ []) (λ b. omega arith)
+own_few plan (key.Intf n) row.Intf = from_few 3 (base_of plan n) (λ b. thing.Rif b vrf.Default ∷ []) (λ b. omega arith)
 own_few plan (key.Neigh n ip) (row.Neigh mac) = from_few 3 (base_of plan n) (λ b. thing.Neighbor (record { on = b; ip = ip }) mac ∷ thing.NextHop (record { on = b; ip = ip }) ∷ []) (λ b. omega arith)
-own_few plan (key.Route prefix) (row.Route r) = from_few 1 (goal_of plan r) (λ g. thing.Route prefix g ∷ []) (λ g. omega arith)
+own_few plan (key.Route prefix) (row.Route r) = from_few 1 (goal_of plan r) (λ g. thing.Route vrf.Default prefix g ∷ []) (λ g. omega arith)
 own_few plan _ _ = omega arith
 
 going_few : (plan : Ports) (k : Key) (r : Row) → length (going plan k r) ≤ most_own k
@@ -139,9 +140,9 @@ route_few plan (route.Direct n) p few h = elim h [ ]
 route_few plan (route.Hops hops) p few h = group_few 128 (hops_of plan hops) p (λ out e. let less = hops_length plan hops out e in omega (arith, less, few)) h
 
 address_few : (plan : Ports) (n : IfName) (ip : Ip) (p : Owner) → IsIn p (address_uses plan n ip) → length (shared_things p) ≤ 1
-address_few plan (on.Ethernet port) ip p h = let x = from_in (lane_of plan port) (λ lane. owner.Own ip ∷ []) p h in only (λ z. length (shared_things z) ≤ 1) p (owner.Own ip) (omega arith) x.2
-address_few plan (on.Vlan vlan) ip p h = only (λ z. length (shared_things z) ≤ 1) p (owner.Own ip) (omega arith) h
-address_few plan (on.Loopback number) ip p h = only (λ z. length (shared_things z) ≤ 1) p (owner.Own ip) (omega arith) h
+address_few plan (on.Ethernet port) ip p h = let x = from_in (lane_of plan port) (λ lane. owner.Own vrf.Default ip ∷ []) p h in only (λ z. length (shared_things z) ≤ 1) p (owner.Own vrf.Default ip) (omega arith) x.2
+address_few plan (on.Vlan vlan) ip p h = only (λ z. length (shared_things z) ≤ 1) p (owner.Own vrf.Default ip) (omega arith) h
+address_few plan (on.Loopback number) ip p h = only (λ z. length (shared_things z) ≤ 1) p (owner.Own vrf.Default ip) (omega arith) h
 
 uses_few : (plan : Ports) (k : Key) (r : Row) (p : Owner) → HasFields plan k r → IsIn p (uses plan k r) → length (shared_things p) ≤ most_shared k
 uses_few plan (key.Member vlan port) (row.Member tagging) p reads h = let x = from_in (lane_of plan port) (λ lane. owner.Bridge lane ∷ []) p h in only (λ z. length (shared_things z) ≤ 1) p (owner.Bridge x.0) (omega arith) x.2
@@ -152,7 +153,7 @@ uses_few plan _ _ p reads h = elim h [ ]
 going_same : (p : Owner) → length (shared_going p) ≡ length (shared_things p)
 going_same (owner.OfRow k) = refl
 going_same (owner.Bridge lane) = refl
-going_same (owner.Own ip) = refl
+going_same (owner.Own v ip) = refl
 going_same (owner.Group hops) = let sum = length-append (members_of hops hops) (thing.Group hops ∷ []) in omega (arith, sum)
 
 -- each row that the key has, if it has one, reads

@@ -1,5 +1,5 @@
 -- there is room for what an operation makes, or a first kind lacks it
-use Rattle.std.proofs.Common.{◌≡◌, ◌⊎◌, ◌+◌, ◌<◌, ◌≤◌, ◌∙◌, inl, inr, ℕ, zero, suc, List, Option, None, Some, refl, sym, ap, subst, arith}
+use Rattle.std.proofs.Common.{◌≡◌, ◌⊎◌, ◌+◌, ◌<◌, ◌≤◌, ◌∙◌, inl, inr, ℕ, zero, suc, List, length, Option, None, Some, get_or, refl, sym, ap, subst, arith}
 use Rattle.swss_types.proofs.Most.{most_or_more}
 use Rattle.table_schema.specs.Plan.{Ports}
 use Rattle.table_schema.specs.declared.key.Key.{Key}
@@ -7,6 +7,7 @@ use Rattle.table_schema.specs.declared.row.Row.{Row}
 use Rattle.sai_types.specs.declared.kind.Kind.{Kind}
 use Rattle.sai_types.specs.declared.kind.Kind.TheVariants as kind
 use Rattle.sai_types.specs.Alike.{IsIn}
+use Rattle.sai_types.specs.Kinds.{all_kinds}
 use Rattle.sai_types.specs.Objects.{level, used}
 use Rattle.sai_types.specs.Refusal.{capacity_of}
 use Rattle.sai_types.proofs.Levels.{level_within}
@@ -19,47 +20,10 @@ use Rattle.switch_machine.specs.Reasons.{LacksRoom}
 use Rattle.switch_machine.specs.Places.{HasRoomFor, makes, places_kept}
 use Rattle.switch_machine.specs.Written.{good_of}
 use Rattle.switch_machine.proofs.Kept.{no_makes}
+use Rattle.switch_machine.proofs.Single.{kind_at, kind_low, kinds}
 
-of_level : ℕ → Kind
-of_level zero = kind.Port
-of_level (suc zero) = kind.Vlan
-of_level (suc (suc zero)) = kind.BridgePort
-of_level (suc (suc (suc zero))) = kind.VlanMember
-of_level (suc (suc (suc (suc zero)))) = kind.Rif
-of_level (suc (suc (suc (suc (suc zero))))) = kind.OwnAddress
-of_level (suc (suc (suc (suc (suc (suc zero)))))) = kind.Neighbor
-of_level (suc (suc (suc (suc (suc (suc (suc zero))))))) = kind.NextHop
-of_level (suc (suc (suc (suc (suc (suc (suc (suc zero)))))))) = kind.Group
-of_level (suc (suc (suc (suc (suc (suc (suc (suc (suc zero))))))))) = kind.GroupMember
-of_level (suc (suc (suc (suc (suc (suc (suc (suc (suc (suc n)))))))))) = kind.Route
-
-level_back : (k : Kind) → of_level (level k) ≡ k
-unfolding of_level
-level_back kind.Port = refl
-level_back kind.Vlan = refl
-level_back kind.BridgePort = refl
-level_back kind.VlanMember = refl
-level_back kind.Rif = refl
-level_back kind.OwnAddress = refl
-level_back kind.Neighbor = refl
-level_back kind.NextHop = refl
-level_back kind.Group = refl
-level_back kind.GroupMember = refl
-level_back kind.Route = refl
-
-level_low : (n : ℕ) → level (of_level n) ≤ n
-unfolding of_level
-level_low zero = omega arith
-level_low (suc zero) = omega arith
-level_low (suc (suc zero)) = omega arith
-level_low (suc (suc (suc zero))) = omega arith
-level_low (suc (suc (suc (suc zero)))) = omega arith
-level_low (suc (suc (suc (suc (suc zero))))) = omega arith
-level_low (suc (suc (suc (suc (suc (suc zero)))))) = omega arith
-level_low (suc (suc (suc (suc (suc (suc (suc zero))))))) = omega arith
-level_low (suc (suc (suc (suc (suc (suc (suc (suc zero)))))))) = omega arith
-level_low (suc (suc (suc (suc (suc (suc (suc (suc (suc zero))))))))) = omega arith
-level_low (suc (suc (suc (suc (suc (suc (suc (suc (suc (suc n)))))))))) = omega arith
+abbrev of_level : ℕ → Kind
+of_level n = get_or kinds n kind.Port
 
 module _ (plan : Ports) (workers : ℕ) (capacities : List ℕ) (s : SwitchState) where
   module _ (due : List Change) where
@@ -89,18 +53,18 @@ module _ (plan : Ports) (workers : ℕ) (capacities : List ℕ) (s : SwitchState
       where
         by : ((low : Kind) → level low < n → Fit low) ⊎ Lacks → Fit (of_level n) ⊎ ((0 < makes (of_level n) due) × (capacity_of capacities (of_level n) < need (of_level n))) → ((low : Kind) → level low < suc n → Fit low) ⊎ Lacks
         by (inr x) _ = inr x
-        by (inl f) (inr (some, many)) = inr (record { which = of_level n; some = some; many = many; lower = λ low h. f low (let l = level_low n in omega (arith, h, l)) })
+        by (inl f) (inr (some, many)) = inr (record { which = of_level n; some = some; many = many; lower = λ low h. f low (let l = kind_low n in omega (arith, h, l)) })
         by (inl f) (inl fit) = inl (λ low h. one low (most_or_more (suc (level low)) n) h)
           where
             one : (low : Kind) → (suc (level low) ≤ n) ⊎ (n < suc (level low)) → level low < suc n → Fit low
             one low (inl less) h = f low (omega (arith, less))
-            one low (inr more) h = let same : level low ≡ n = omega (arith, more, h) in subst Fit (ap of_level (sym same) ∙ level_back low) fit
+            one low (inr more) h = let same : level low ≡ n = omega (arith, more, h) in subst Fit (ap of_level (sym same) ∙ kind_at low) fit
 
   -- a row that is to come has room, or a first kind lacks it
   pub room-or : (w : ℕ) (f : MachineFlight) (due : List Change) → MayBegin plan s.machine w f due → (row : Row) → f.new ≡ Some row → good_of plan s.written f.key ≡ Some row → HasRoomFor workers capacities s.objects s.machine due ⊎ ((kind : Kind) × LacksRoom plan workers capacities s f.key kind)
-  room-or w f due begins row new good = by (scan due 11)
+  room-or w f due begins row new good = by (scan due (length all_kinds))
     where
-      by : ((low : Kind) → level low < 11 → Fit due low) ⊎ Lacks due → HasRoomFor workers capacities s.objects s.machine due ⊎ ((kind : Kind) × LacksRoom plan workers capacities s f.key kind)
+      by : ((low : Kind) → level low < length all_kinds → Fit due low) ⊎ Lacks due → HasRoomFor workers capacities s.objects s.machine due ⊎ ((kind : Kind) × LacksRoom plan workers capacities s f.key kind)
       by (inl fit) = inl (λ kind. fit kind (level_within kind))
       by (inr x) = inr (x.which, record { worker = w; flight = f; due = due; begins = begins; is = refl; row = row; new = new; good = good; some = x.some; many = x.many; lower = x.lower })
 

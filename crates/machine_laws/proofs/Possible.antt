@@ -40,7 +40,7 @@ module _ (plan : Ports) (is : IsPlan plan) (m : Machine) (sound : IsConsistent p
   first_shared : (o : Owner) → IsShared o → (x : Thing) × IsIn x (shared_things o)
   first_shared (owner.OfRow k) h = elim h [ ]
   first_shared (owner.Bridge lane) h = (thing.BridgePort lane, inl refl)
-  first_shared (owner.Own ip) h = (thing.Own ip, inl refl)
+  first_shared (owner.Own v ip) h = (thing.Own v ip, inl refl)
   first_shared (owner.Group hops) h = (thing.Group hops, inl refl)
 
   -- whether what is shared has a user shows in what stands

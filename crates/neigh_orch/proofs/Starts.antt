@@ -22,7 +22,7 @@ use Rattle.orch_flight.proofs.Begins.{names-plain, no_places, places-set, places
 use Rattle.neigh_orch.specs.Neighbours.{neighbor_hop}
 
 abbrev pub made : List ℕ
-made = 0 ∷ 0 ∷ 0 ∷ 0 ∷ 0 ∷ 0 ∷ 1 ∷ 1 ∷ 0 ∷ 0 ∷ 0 ∷ []
+made = 0 ∷ 0 ∷ 0 ∷ 0 ∷ 0 ∷ 0 ∷ 0 ∷ 1 ∷ 1 ∷ 0 ∷ 0 ∷ 0 ∷ []
 
 -- the things of a neighbour, where its interface stands on something
 abbrev pub things_on : Ip → Mac → Option Base → List Thing

@@ -11,7 +11,7 @@ use swss_types::{IfName, Ip, OutOfMemory};
 use table_schema::{Key, PortPlan, Row};
 
 /// A neighbour that is made takes a place of its kind, and one of a next hop.
-const MADE: KindCounts = [0, 0, 0, 0, 0, 0, 1, 1, 0, 0, 0];
+const MADE: KindCounts = [0, 0, 0, 0, 0, 0, 0, 1, 1, 0, 0, 0];
 
 /// A neighbour whose Ethernet address is set takes none.
 const SET: KindCounts = [0; KINDS];

@@ -25,7 +25,7 @@ use Rattle.orch_flight.specs.Taking.{to_list}
 -- ---- changes that make nothing
 
 abbrev pub no_places : List ℕ
-no_places = 0 ∷ 0 ∷ 0 ∷ 0 ∷ 0 ∷ 0 ∷ 0 ∷ 0 ∷ 0 ∷ 0 ∷ 0 ∷ []
+no_places = 0 ∷ 0 ∷ 0 ∷ 0 ∷ 0 ∷ 0 ∷ 0 ∷ 0 ∷ 0 ∷ 0 ∷ 0 ∷ 0 ∷ []
 
 pub places-set : (t u : Thing) (rest : List Change) → places_for (set_to t u rest) ≡ places_for rest
 places-set t u rest = elim (same_thing t u) as (λ b. places_for (if b then rest else Set u ∷ rest) ≡ places_for rest) [ true ↦ refl | false ↦ refl ]
@@ -37,6 +37,7 @@ places-taken (t ∷ ts) = places-taken ts
 number-none : (k : Kind) → number_of_kind no_places k ≡ 0
 number-none kind.Port = refl
 number-none kind.Vlan = refl
+number-none kind.VirtualRouter = refl
 number-none kind.BridgePort = refl
 number-none kind.VlanMember = refl
 number-none kind.Rif = refl

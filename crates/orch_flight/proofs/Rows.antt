@@ -31,7 +31,7 @@ use Rattle.orch_flight.proofs.Begins.{begun-row-when, names-plain, none-missing}
 pub same-name : (n : Name) → name_for (owner_for n) ≡ n
 same-name (name.Row k) = refl
 same-name (name.BridgePort lane) = refl
-same-name (name.Own ip) = refl
+same-name (name.Own v ip) = refl
 same-name (name.Group hops) = refl
 
 -- what a row shares may be shared

@@ -105,13 +105,13 @@ pins-undone worker user ks names h = all-pinned worker user ks names ∙ none-re
 pub row_apart : (k : Key) (n : Name) → IsOfShared n → is_at (registered_name_cmp (name.Row k)) n ≡ false
 row_apart k (name.Row q) h = elim h [ ]
 row_apart k (name.BridgePort lane) h = refl
-row_apart k (name.Own ip) h = refl
+row_apart k (name.Own v ip) h = refl
 row_apart k (name.Group hops) h = refl
 
 apart_row : (k : Key) (n : Name) → IsOfShared n → is_at (registered_name_cmp n) (name.Row k) ≡ false
 apart_row k (name.Row q) h = elim h [ ]
 apart_row k (name.BridgePort lane) h = refl
-apart_row k (name.Own ip) h = refl
+apart_row k (name.Own v ip) h = refl
 apart_row k (name.Group hops) h = refl
 
 -- the names that rows share stand as before

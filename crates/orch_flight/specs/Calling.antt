@@ -80,9 +80,9 @@ pub record IsMaking (at : thing_name.ThingName → Vid → Type 0) (t : Thing) (
 
 -- the entry of an object: its key, or its identifier
 abbrev pub entry_by : {I : Type 0} → I → Body I → Entry I
-entry_by id (body.OwnAddress ip) = entry.Own ip
+entry_by id (body.OwnAddress vr ip) = entry.Own vr ip
 entry_by id (body.Neighbor rif ip mac) = entry.Neigh rif ip
-entry_by id (body.Route prefix to) = entry.Route prefix
+entry_by id (body.Route vr prefix to) = entry.Route vr prefix
 entry_by id b = entry.Oid id
 
 -- of all entries that of a neighbour alone has the identifier of what the thing refers to
@@ -149,23 +149,23 @@ pointed _ g = []
 abbrev pub referred : Key → Option Row → Thing → List Name
 referred (key.Member vlan port) new (thing.BridgePort lane) = name.Row (key.Port port) ∷ []
 referred (key.Member vlan port) new (thing.VlanMember v lane tagging) = name.Row (key.Vlan vlan) ∷ name.BridgePort lane ∷ []
-referred (key.Intf n) new (thing.Rif b) = map name.Row (base_names n)
+referred (key.Intf n) new (thing.Rif b v) = map name.Row (base_names n)
 referred (key.Neigh n ip) new (thing.Neighbor hop mac) = name.Row (key.Intf n) ∷ []
 referred (key.Neigh n ip) new (thing.NextHop hop) = name.Row (key.Intf n) ∷ []
-referred (key.Route prefix) new (thing.Route p g) = pointed new g
+referred (key.Route prefix) new (thing.Route v p g) = pointed new g
 referred k new t = []
 
 -- and those by which it is named itself: a neighbour by its interface; an own address and a route by themselves
 abbrev pub entered : Key → thing_name.ThingName → List Name
 entered (key.Neigh n ip) (thing_name.Neighbor hop) = name.Row (key.Intf n) ∷ []
 entered k (thing_name.BridgePort lane) = name.BridgePort lane ∷ []
-entered k (thing_name.Own ip) = []
-entered k (thing_name.Route prefix) = []
+entered k (thing_name.Own v ip) = []
+entered k (thing_name.Route v prefix) = []
 entered k n = name.Row k ∷ []
 
 -- what an attribute that is set refers to: the new target of a route
 abbrev pub set_refers : Key → Option Row → Thing → List Name
-set_refers (key.Route prefix) new (thing.Route p g) = pointed new g
+set_refers (key.Route prefix) new (thing.Route v p g) = pointed new g
 set_refers k new u = []
 
 abbrev pub ids_needed : Key → Option Row → Change → List Name

@@ -25,7 +25,7 @@ use Rattle.ref_counts.specs.Room.{RoomState, lacking}
 abbrev pub name_for : Owner → Name
 name_for (OfRow k) = name.Row k
 name_for (Bridge lane) = name.BridgePort lane
-name_for (Own ip) = name.Own ip
+name_for (Own v ip) = name.Own v ip
 name_for (Group hops) = name.Group hops
 
 -- what a new row needs: the rows that it names, and what it shares

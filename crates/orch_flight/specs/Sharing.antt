@@ -23,7 +23,7 @@ use Rattle.orch_flight.specs.Starting.{ids_for, ids_for_row}
 abbrev pub owner_for : Name → Owner
 owner_for (name.Row k) = OfRow k
 owner_for (name.BridgePort lane) = Bridge lane
-owner_for (name.Own ip) = Own ip
+owner_for (name.Own v ip) = Own v ip
 owner_for (name.Group hops) = Group hops
 
 abbrev pub owners_of : Option Name → List Owner

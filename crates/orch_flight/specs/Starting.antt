@@ -32,7 +32,7 @@ ids_for_row k = 1
 abbrev pub ids_for : Owner → ℕ
 ids_for (OfRow k) = ids_for_row k
 ids_for (Bridge lane) = 1
-ids_for (Own ip) = 0
+ids_for (Own v ip) = 0
 ids_for (Group hops) = suc (length hops)
 
 -- the rows that the new row names are pinned for the key

@@ -26,9 +26,9 @@ to_list (Some x) = x ∷ []
 -- what is made makes its name live, with its identifier where it has one; of a neighbour's row the next hop does; a row whose objects have none is made live at the operation's end
 abbrev pub names_after_made : Names → Key → Thing → Option Vid → Names
 names_after_made names k (thing.BridgePort lane) made = changed names (name.BridgePort lane) (made_live (to_list made))
-names_after_made names k (thing.Own ip) made = changed names (name.Own ip) (made_live [])
+names_after_made names k (thing.Own v ip) made = changed names (name.Own v ip) (made_live [])
 names_after_made names k (thing.Neighbor hop mac) made = names
-names_after_made names k (thing.Route prefix goal) made = names
+names_after_made names k (thing.Route v prefix goal) made = names
 names_after_made names k (thing.Group hops) made = names
 names_after_made names k (thing.GroupMember hops hop) made = names
 names_after_made names k t made = changed names (name.Row k) (made_live (to_list made))
@@ -36,7 +36,7 @@ names_after_made names k t made = changed names (name.Row k) (made_live (to_list
 -- and what was shared and is taken away is absent
 abbrev pub taken_names : Names → thing_name.ThingName → Names
 taken_names names (thing_name.BridgePort lane) = gone_from names (name.BridgePort lane)
-taken_names names (thing_name.Own ip) = gone_from names (name.Own ip)
+taken_names names (thing_name.Own v ip) = gone_from names (name.Own v ip)
 taken_names names n = names
 
 abbrev pub names_after : Names → Key → Change → Option Vid → Names
@@ -76,9 +76,9 @@ pub record IsTook (old : Operation) (made : Option Vid) (names : Names) (new : O
 -- the name that a thing makes live when it is made
 abbrev pub built_name : Key → Thing → Option Name
 built_name k (thing.BridgePort lane) = Some (name.BridgePort lane)
-built_name k (thing.Own ip) = Some (name.Own ip)
+built_name k (thing.Own v ip) = Some (name.Own v ip)
 built_name k (thing.Neighbor hop mac) = None
-built_name k (thing.Route prefix goal) = None
+built_name k (thing.Route v prefix goal) = None
 built_name k (thing.Group hops) = None
 built_name k (thing.GroupMember hops hop) = None
 built_name k t = Some (name.Row k)

@@ -121,7 +121,7 @@ fn ids_for(name: &Name) -> u64
     match name {
         Name::Row(key) => ids_for_row(key),
         Name::BridgePort(_) => 1,
-        Name::Own(_) => 0,
+        Name::Own(..) => 0,
         Name::Group(hops) => hops.items().len() as u64 + 1,
     }
 }

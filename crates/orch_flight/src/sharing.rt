@@ -8,7 +8,7 @@ ghost use Rattle.orch_flight.specs.Sharing.{AreOfShared, owners_of};
 use ref_counts::Name;
 use sai_types::{Base, Hop, Hops, WHop, Weight};
 use std::alloc::Global;
-use swss_types::{IfName, Ip, OutOfMemory};
+use swss_types::{IfName, Ip, OutOfMemory, Vrf};
 use table_schema::{Key, PortPlan, RouteRow, Row, RowHop, RowHops};
 
 /// The first lane of a port: None exactly where the plan has no such port.
@@ -64,17 +64,18 @@ pub fn bridge_of(plan: &PortPlan, port: u32) -> Option<Name>
     }
 }
 
-/// An interface's address as the switch's own, unless the interface is on a port that is not in the plan.
+/// An interface's address as the switch's own in the default router, unless the interface is on a port that is not in the
+/// plan.
 pub fn own_of(plan: &PortPlan, on: IfName, ip: Ip) -> Option<Name>
     ensures value { address_uses plan.now on ip ≡ owners_of result }
     ensures kind { AreOfShared result }
 {
     match on {
         IfName::Ethernet(port) => match lane_of(plan, port) {
-            Some(_) => Some(Name::Own(ip)),
+            Some(_) => Some(Name::Own(Vrf::Default, ip)),
             None => None,
         },
-        IfName::Vlan(_) | IfName::Loopback(_) => Some(Name::Own(ip)),
+        IfName::Vlan(_) | IfName::Loopback(_) => Some(Name::Own(Vrf::Default, ip)),
     }
 }
 

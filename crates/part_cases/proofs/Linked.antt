@@ -144,27 +144,29 @@ linked-numbered grow s s' objects chip chip' chip'' b w r linked h calls number 
     linked-more s s' linked.view did.0 objects chip'' b v w did.1 change.2 linked.listed (ap (λ (z : ChipState). z.objects) did.3 ∙ made) (linked-whole s s' objects chip chip' chip'' b (Some r) _ linked h calls) (ap (λ x. entry_at x b) is)
 
 unnumbered : {I : Type 0} (b : Body I) (v w : I) → has_id b ≡ false → entry_at w b ≡ entry_at v b
-unnumbered (body.OwnAddress ip) v w h = refl
+unnumbered (body.OwnAddress vr ip) v w h = refl
 unnumbered (body.Neighbor rif ip mac) v w h = refl
-unnumbered (body.Route prefix to) v w h = refl
+unnumbered (body.Route vr prefix to) v w h = refl
 unnumbered (body.Port lanes speed mtu up) v w h = absurd cc
 unnumbered (body.Vlan vlan) v w h = absurd cc
+unnumbered (body.VirtualRouter label) v w h = absurd cc
 unnumbered (body.BridgePort port) v w h = absurd cc
 unnumbered (body.VlanMember vlan bridge_port tagging) v w h = absurd cc
-unnumbered (body.Rif on) v w h = absurd cc
+unnumbered (body.Rif vr on) v w h = absurd cc
 unnumbered (body.NextHop rif ip) v w h = absurd cc
 unnumbered body.Group v w h = absurd cc
 unnumbered (body.GroupMember group next_hop weight) v w h = absurd cc
 
 keyed_alike : (b : Body Vid) (n m : ℕ) → has_id b ≡ false → entry_of n (body_renamed as_rid b) ≡ entry_of m (body_renamed as_rid b)
-keyed_alike (body.OwnAddress ip) n m h = refl
+keyed_alike (body.OwnAddress vr ip) n m h = refl
 keyed_alike (body.Neighbor rif ip mac) n m h = refl
-keyed_alike (body.Route prefix to) n m h = refl
+keyed_alike (body.Route vr prefix to) n m h = refl
 keyed_alike (body.Port lanes speed mtu up) n m h = absurd cc
 keyed_alike (body.Vlan vlan) n m h = absurd cc
+keyed_alike (body.VirtualRouter label) n m h = absurd cc
 keyed_alike (body.BridgePort port) n m h = absurd cc
 keyed_alike (body.VlanMember vlan bridge_port tagging) n m h = absurd cc
-keyed_alike (body.Rif on) n m h = absurd cc
+keyed_alike (body.Rif vr on) n m h = absurd cc
 keyed_alike (body.NextHop rif ip) n m h = absurd cc
 keyed_alike body.Group n m h = absurd cc
 keyed_alike (body.GroupMember group next_hop weight) n m h = absurd cc

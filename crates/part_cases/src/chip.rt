@@ -10,6 +10,7 @@
 // remove ENTRY => ANSWER
 // used KIND N                so many objects of the kind stand
 // capacity KIND N            so many have room
+// goes IP WAY                packets to the address go so in the default router; `goes IP in NAME WAY`: in the router of this name
 // effects N                  so many calls took effect; `effect K` and `no effect K`: whether there is one of this number
 // faults N                   so many calls failed
 // hold ENTRY OBJECT          the list behind which listings are put holds this object
@@ -31,11 +32,14 @@
 // ```
 //
 // `room` and `fail` stand before the first call of a case. An OBJECT is `port LANES`, `port LANES up`, `vlan NUMBER`,
-// `bridge_port ID`, `member VLAN-ID BRIDGE-PORT-ID`, `rif port ID`, `rif vlan ID`, `own IP`, `neighbor RIF-ID IP MAC`,
-// `next_hop RIF-ID IP`, `group`, `group_member GROUP-ID NEXT-HOP-ID`, with the weight 1, `group_member GROUP-ID NEXT-HOP-ID
-// WEIGHT` or `route PREFIX TARGET`. A TARGET is `drop`, `rif ID`, `next_hop ID` or `group ID`. An ENTRY is `id ID`, `own IP`, `neighbor RIF-ID IP` or `route PREFIX`. An
-// ATTRIBUTE is `speed N`, `mtu N`, `up`, `down`, `tagging WORD`, `mac MAC` or `to TARGET`. An ANSWER is `made ID`, `done`,
-// `exists`, `bad-reference`, `not-found`, `in-use`, `full`, `failed` or `no-memory`, as it stands in the chip's table.
+// `virtual_router NAME`, `bridge_port ID`, `member VLAN-ID BRIDGE-PORT-ID`, `rif port ID`, `rif vlan ID`, `own IP`,
+// `neighbor RIF-ID IP MAC`, `next_hop RIF-ID IP`, `group`, `group_member GROUP-ID NEXT-HOP-ID`, with the weight 1,
+// `group_member GROUP-ID NEXT-HOP-ID WEIGHT` or `route PREFIX TARGET`. A TARGET is `drop`, `rif ID`, `next_hop ID` or
+// `group ID`. An ENTRY is `id ID`, `own IP`, `neighbor RIF-ID IP` or `route PREFIX`. An interface, own address or route is in
+// the default router, unless `in ROUTER-ID` stands behind its base, address or prefix. An ATTRIBUTE is `speed N`, `mtu N`,
+// `up`, `down`, `tagging WORD`, `mac MAC` or `to TARGET`. An ANSWER is `made ID`, `done`, `exists`, `bad-reference`,
+// `not-found`, `in-use`, `full`, `failed` or `no-memory`, as it stands in the chip's table. A WAY is `cpu`, `drop`,
+// `direct port LANE`, `direct vlan NUMBER`, or `via IP ..` with the addresses of the hops.
 // What differs is printed by the name of its case.
 
 mod asked;
@@ -44,6 +48,7 @@ mod case;
 mod entry;
 mod object;
 mod report;
+mod way;
 
 use crate::parted::{Part, parts};
 use crate::tally::Tally;

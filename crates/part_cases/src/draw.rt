@@ -44,6 +44,12 @@ impl ViewDraw {
         }
     }
 
+    /// The number of a place, below the one that is given, which both views have.
+    pub fn shared(&self, round: u8, place: u8, below: u64) -> u64 {
+        let place = u64::from(round) << 8 | u64::from(place);
+        mixed(mixed(self.seed ^ mixed(place)) ^ 7) % below.max(1)
+    }
+
     /// Whether what has this place is there: mostly it is.
     pub fn has(&self, round: u8, place: u8) -> bool {
         self.pick(round, place, 6) != 0

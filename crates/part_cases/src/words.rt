@@ -5,7 +5,7 @@ ghost use Rattle.machine_laws.specs.Reading.{IsOnSwitch};
 use anyhow::{Context, Result, bail};
 use sai_types::{Kind, Rid, Weight};
 use std::alloc::Global;
-use swss_types::{Ip, Lanes, Mac, Prefix, Tagging, Text};
+use swss_types::{Ip, Lanes, Mac, Prefix, Tagging, Text, VrfName};
 use table_schema::{Fields, Key, has_colon, read_key};
 
 /// A number.
@@ -32,6 +32,11 @@ pub fn weight(word: &str) -> Result<Weight> {
 /// An address.
 pub fn ip(word: &str) -> Result<Ip> {
     Ip::read(word.as_bytes()).context("an address")
+}
+
+/// The name of a virtual router.
+pub fn vrf_name(word: &str) -> Result<VrfName> {
+    VrfName::read(word.as_bytes()).context("a router")
 }
 
 /// A prefix.
@@ -69,6 +74,7 @@ fn kind_name(kind: Kind) -> &'static str {
     match kind {
         Kind::Port => "PORT",
         Kind::Vlan => "VLAN",
+        Kind::VirtualRouter => "VIRTUAL_ROUTER",
         Kind::BridgePort => "BRIDGE_PORT",
         Kind::VlanMember => "VLAN_MEMBER",
         Kind::Rif => "RIF",

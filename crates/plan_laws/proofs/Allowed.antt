@@ -3,16 +3,18 @@ use Rattle.std.proofs.Common.{◌≡◌, inl, inr, ◌⊎◌, ℕ, ◌-◌, ◌<
 use Rattle.std.specs.List.{list_all}
 use Rattle.std.proofs.lemmas.Bool.{and_parts, ltb-true}
 use Rattle.std.proofs.lemmas.List.{append-nil}
+use Rattle.swss_types.specs.declared.vrf.Vrf.TheVariants as vrf
 use Rattle.sai_types.specs.declared.hop.Base.TheVariants as base
+use Rattle.sai_types.specs.declared.kind.Kind.TheVariants as kind
 use Rattle.sai_types.specs.declared.thing.Goal.TheVariants as goal
 use Rattle.sai_types.specs.declared.thing.Thing.{Thing}
 use Rattle.sai_types.specs.declared.thing.Thing.TheVariants as thing
 use Rattle.sai_types.specs.Alike.{IsIn}
 use Rattle.sai_types.specs.Objects.{level}
 use Rattle.sai_types.specs.Names as name
-use Rattle.sai_types.specs.Names.{Meet, ThingName, Refers, name_kind, name_of, thing_references}
+use Rattle.sai_types.specs.Names.{Meet, Overlap, ThingName, Refers, name_kind, name_of, thing_references}
 use Rattle.plan_laws.specs.Plans.{AreRanked, PlanChange, IsViewPlan, Make, Remove, Set, stands_after_all, cold_rank, hitless_rank, make_place, remove_place, set_place, subject}
-use Rattle.plan_laws.specs.Views.{HaveOwnNames, LanesApart, ReferWithin}
+use Rattle.plan_laws.specs.Views.{HaveOwnNames, ReferWithin}
 use Rattle.plan_laws.proofs.Following.{HasNamed, before, done-in, due-in, ranked-right, new-stands, now-new, old-stands, origin, outcome-named, outcome-new}
 use Rattle.plan_laws.proofs.Deciders.{IsGood, good-names, len_within}
 use Rattle.plan_laws.proofs.Moving.{set-most}
@@ -22,56 +24,68 @@ use Rattle.plan_laws.proofs.Moving.{set-most}
 abbrev pub height : ThingName → ℕ
 height k = level (name_kind k)
 
+-- nothing is higher than a route
+abbrev pub highest : ℕ
+highest = level kind.Route
+
 low_enough : (n : ℕ) (ks : List ThingName) (k : ThingName) → list_all (λ m. nat_lt (height m) n) ks ≡ true → IsIn k ks → height k < n
 low_enough n [] k h i = elim i [ ]
 low_enough n (m ∷ ks) k h (inl is) = let less = (and_parts (nat_lt (height m) n) _ h).0 in subst (λ z. height z < n) (sym is) (ltb-true (height m) n less)
 low_enough n (m ∷ ks) k h (inr i) = low_enough n ks k (and_parts (nat_lt (height m) n) _ h).1 i
 
 all_low : (t : Thing) → list_all (λ m. nat_lt (height m) (height (name_of t))) (thing_references t) ≡ true
-all_low (thing.Rif (base.Port lane)) = refl
-all_low (thing.Rif (base.Vlan vlan)) = refl
-all_low (thing.Route prefix goal.Drop) = refl
-all_low (thing.Route prefix (goal.Direct on)) = refl
-all_low (thing.Route prefix (goal.Via hop)) = refl
-all_low (thing.Route prefix (goal.Group hops)) = refl
+all_low (thing.Rif (base.Port lane) vrf.Default) = refl
+all_low (thing.Rif (base.Port lane) (vrf.Named n)) = refl
+all_low (thing.Rif (base.Vlan vlan) vrf.Default) = refl
+all_low (thing.Rif (base.Vlan vlan) (vrf.Named n)) = refl
+all_low (thing.Own vrf.Default ip) = refl
+all_low (thing.Own (vrf.Named n) ip) = refl
+all_low (thing.Route vrf.Default prefix goal.Drop) = refl
+all_low (thing.Route vrf.Default prefix (goal.Direct on)) = refl
+all_low (thing.Route vrf.Default prefix (goal.Via hop)) = refl
+all_low (thing.Route vrf.Default prefix (goal.Group hops)) = refl
+all_low (thing.Route (vrf.Named n) prefix goal.Drop) = refl
+all_low (thing.Route (vrf.Named n) prefix (goal.Direct on)) = refl
+all_low (thing.Route (vrf.Named n) prefix (goal.Via hop)) = refl
+all_low (thing.Route (vrf.Named n) prefix (goal.Group hops)) = refl
 all_low _ = refl
 
 pub refers-lower : (t : Thing) (k : ThingName) → Refers t k → height k < height (name_of t)
 refers-lower t k r = low_enough (height (name_of t)) (thing_references t) k (all_low t) r
 
-height_most : (k : ThingName) → height k ≤ 10
-height_most (name.Route p) = omega arith
+height_most : (k : ThingName) → height k ≤ highest
+height_most (name.Route v p) = omega arith
 height_most _ = omega arith
 
 -- ---- turns
 
-make_low : (k : ThingName) → height k < 10 → make_place k ≡ height k
-make_low (name.Route p) less = absurd (omega (arith, less))
+make_low : (k : ThingName) → height k < highest → make_place k ≡ height k
+make_low (name.Route v p) less = absurd (omega (arith, less))
 make_low _ less = refl
 
-remove_low : (k : ThingName) → height k < 10 → remove_place k ≡ 1400 - height k
-remove_low (name.Route p) less = absurd (omega (arith, less))
+remove_low : (k : ThingName) → height k < highest → remove_place k ≡ 1400 - height k
+remove_low (name.Route v p) less = absurd (omega (arith, less))
 remove_low _ less = refl
 
 -- what is made later than by this turn is no lower than this
-make_high : (k : ThingName) (n : ℕ) → IsGood k → n < height k → n < 10 → n < make_place k
-make_high (name.Route p) n good less small = let len = len_within p good in omega (arith, len, small)
+make_high : (k : ThingName) (n : ℕ) → IsGood k → n < height k → n < highest → n < make_place k
+make_high (name.Route v p) n good less small = let len = len_within p good in omega (arith, len, small)
 make_high _ n good less small = less
 
-set_high : (k : ThingName) (n : ℕ) → n < 10 → n < set_place k
-set_high (name.Route p) n small = omega (arith, small)
+set_high : (k : ThingName) (n : ℕ) → n < highest → n < set_place k
+set_high (name.Route v p) n small = omega (arith, small)
 set_high _ n small = omega (arith, small)
 
-remove_less : (k : ThingName) (n : ℕ) → IsGood k → n < height k → n < 10 → remove_place k < 1400 - n
-remove_less (name.Route p) n good less small = let len = len_within p good in omega (arith, len, small)
+remove_less : (k : ThingName) (n : ℕ) → IsGood k → n < height k → n < highest → remove_place k < 1400 - n
+remove_less (name.Route v p) n good less small = let len = len_within p good in omega (arith, len, small)
 remove_less _ n good less small = omega (arith, less)
 
 -- the numbers that an order needs: what is referred to is made before, and what refers is removed before
 pub record IsSafeOrder (order : PlanChange → ℕ) : Type 0 where
-  pub make_after : (t w : Thing) → IsGood (name_of t) → height (name_of w) < height (name_of t) → height (name_of w) < 10 → order (Make w) < order (Make t)
-  pub set_after : (t w : Thing) → height (name_of w) < 10 → order (Make w) < order (Set t)
-  pub remove_before : (k m : ThingName) → IsGood m → height k < height m → height k < 10 → order (Remove m) < order (Remove k)
-  pub set_before : (t : Thing) (k : ThingName) → height k < 10 → order (Set t) < order (Remove k)
+  pub make_after : (t w : Thing) → IsGood (name_of t) → height (name_of w) < height (name_of t) → height (name_of w) < highest → order (Make w) < order (Make t)
+  pub set_after : (t w : Thing) → height (name_of w) < highest → order (Make w) < order (Set t)
+  pub remove_before : (k m : ThingName) → IsGood m → height k < height m → height k < highest → order (Remove m) < order (Remove k)
+  pub set_before : (t : Thing) (k : ThingName) → height k < highest → order (Set t) < order (Remove k)
 
 pub hitless-safe : IsSafeOrder hitless_rank
 hitless-safe = record {
@@ -89,13 +103,17 @@ cold-safe = record {
   set_before = λ t k small. omega (arith, small);
 }
 
+-- a new thing and another have one name where they overlap
+pub record ThingsApart (old new : List Thing) : Type 0 where
+  pub each : (t u : Thing) → IsIn t new → IsIn u old ⊎ IsIn u new → Overlap t u → name_of t ≡ name_of u
+
 -- a plan in an order that leads from old things to new ones, where each are told apart and the new ones refer to each other
 pub record IsSafePlan (order : PlanChange → ℕ) (old new : List Thing) (plan : List PlanChange) : Type 0 where
   pub safe : IsSafeOrder order
   pub old_named : HaveOwnNames old
   pub new_named : HaveOwnNames new
   pub within : ReferWithin new
-  pub lanes : LanesApart old new
+  pub apart : ThingsApart old new
   pub is_plan : IsViewPlan order old new plan
 
 module _ {order : PlanChange → ℕ} {old new : List Thing} {plan : List PlanChange} (p : IsSafePlan order old new plan) where
@@ -115,7 +133,7 @@ module _ {order : PlanChange → ℕ} {old new : List Thing} {plan : List PlanCh
     not_before d (inr i) = ((ranked-right order done (next ∷ due) (subst (AreRanked order) cut p.is_plan.in_order)).0 d i).0
 
     -- what a new thing refers to stands where that is made before the next change
-    refers_well : (t : Thing) → IsIn t new → ((w : Thing) → height (name_of w) < height (name_of t) → height (name_of w) < 10 → order (Make w) < order next) → (k : ThingName) → Refers t k → HasNamed now k
+    refers_well : (t : Thing) → IsIn t new → ((w : Thing) → height (name_of w) < height (name_of t) → height (name_of w) < highest → order (Make w) < order next) → (k : ThingName) → Refers t k → HasNamed now k
     refers_well t i late k r =
         let w = p.within.refers t k i r in
         let low = refers-lower t k r in
@@ -144,7 +162,7 @@ module _ {order : PlanChange → ℕ} {old new : List Thing} {plan : List PlanCh
 
       pub make-free : (u : Thing) → stands_after_all done stood u → Meet t u → ⊥
       make-free u h (inl same) = fresh done (Make t) due cut make_new.1 u h (sym same)
-      make-free u h (inr lane) = fresh done (Make t) due cut make_new.1 u h (sym (p.lanes.apart t u make_new.0 (old_or_new done (Make t) due cut u h) lane))
+      make-free u h (inr lane) = fresh done (Make t) due cut make_new.1 u h (sym (p.apart.each t u make_new.0 (old_or_new done (Make t) due cut u h) lane))
 
       pub make-refers : (k : ThingName) → Refers t k → HasNamed (stands_after_all done stood) k
       make-refers = refers_well done (Make t) due cut t make_new.0 (λ w. p.safe.make_after t w (good-names new p.new_named t make_new.0))
@@ -179,7 +197,7 @@ module _ {order : PlanChange → ℕ} {old new : List Thing} {plan : List PlanCh
     remove-unused v h r =
         let low = refers-lower v k r in
         let most = height_most (name_of v) in
-        let small : height k < 10 = omega (arith, low, most) in
+        let small : height k < highest = omega (arith, low, most) in
         let i = now-new p.is_plan done (Remove k ∷ due) cut p.old_named v h
         (λ t set same. let late = not_before done (Remove k) due cut (Set t) set in let early = p.safe.set_before t k small in absurd (omega (arith, late, early)))
         (λ gone. let late = not_before done (Remove k) due cut (Remove (name_of v)) gone in let early = p.safe.remove_before k (name_of v) good low small in absurd (omega (arith, late, early))) in

@@ -1,6 +1,5 @@
--- what a view has is apart from what stands beside it, where their ports are: of one group no two members have one hop
+-- what a view has is apart from what stands beside it where the ports are: of one group no two members have one hop
 use Rattle.std.proofs.Common.{◌≡◌, inl, inr, ℕ, List, [], refl, sym, ap₂, subst}
-use Rattle.sai_types.specs.declared.thing.PortThing.{PortThing}
 use Rattle.sai_types.specs.declared.thing.Thing.{Thing}
 use Rattle.sai_types.specs.declared.thing.Thing.TheVariants as thing
 use Rattle.sai_types.specs.declared.weight.WHop.{WHop}
@@ -12,15 +11,12 @@ use Rattle.sai_types.specs.Objects.{Objects}
 use Rattle.sai_types.proofs.Weights.{one-weight}
 use Rattle.plan_laws.specs.Applied.{IsListedChip, IsView}
 use Rattle.plan_laws.specs.Old.{old_things}
-use Rattle.plan_laws.specs.Views.{LanesApart}
+use Rattle.plan_laws.specs.Views.{LanesApart, PortsApart}
+use Rattle.plan_laws.proofs.Allowed.{ThingsApart}
 use Rattle.plan_laws.proofs.Starting.{hops-same, old-tagged}
 use Rattle.plan_laws.proofs.Targets.{is-group}
 
--- a port of the one things and a port of the others have one name where they have a lane in common
-abbrev pub PortsApart : List Thing → List Thing → Type 0
-PortsApart new others = (p q : PortThing) → IsIn (thing.Port p) new → IsIn (thing.Port q) others → Overlap (thing.Port p) (thing.Port q) → name_of (thing.Port p) ≡ name_of (thing.Port q)
-
--- and a member of a group and another where they are of one group and have one hop
+-- a member of a group and another have one name where they are of one group and have one hop
 abbrev MembersApart : List Thing → List Thing → Type 0
 MembersApart new others = (gs hs : List WHop) (x y : WHop) → IsIn (thing.GroupMember gs x) new → IsIn (thing.GroupMember hs y) others → Overlap (thing.GroupMember gs x) (thing.GroupMember hs y) → name.GroupMember gs x ≡ name.GroupMember hs y
 
@@ -41,8 +37,8 @@ module _ {new : List Thing} (view : IsView new) where
       let other = subst (IsIn y) (sym same) (view.grouped.only hs y j) in
       ap₂ name.GroupMember same (one-weight gs x y (member_rising gs x i) (view.grouped.only gs x i) other hop)
 
-  pub lanes-new : PortsApart new new → LanesApart [] new
-  lanes-new ports = record { apart = λ t u i j both. elim j [ inl none ↦ elim none [ ] | inr k ↦ apart_by new new ports members_new t u i k both ] }
+  pub apart-new : LanesApart [] new → ThingsApart [] new
+  apart-new lanes = record { each = λ t u i j both. elim j [ inl none ↦ elim none [ ] | inr k ↦ apart_by new new lanes.within members_new t u i k both ] }
 
   module _ {made : ℕ} {objects : Objects} (chip : IsListedChip made objects) where
     members_old : MembersApart new (old_things objects new)
@@ -52,11 +48,11 @@ module _ {new : List Thing} (view : IsView new) where
         let other = subst (IsIn y) (hops-same chip new gs rising) ((old-tagged chip new).only gs y was) in
         ap₂ name.GroupMember same (one-weight gs x y rising (view.grouped.only gs x i) other hop)
 
-    pub lanes-old : PortsApart new (old_things objects new) → PortsApart new new → LanesApart (old_things objects new) new
-    lanes-old was ports = record {
-      apart = λ t u i j both.
+    pub apart-old : LanesApart (old_things objects new) new → ThingsApart (old_things objects new) new
+    apart-old lanes = record {
+      each = λ t u i j both.
           elim j [
-            | inl k ↦ apart_by new (old_things objects new) was members_old t u i k both
-            | inr k ↦ apart_by new new ports members_new t u i k both
+            | inl k ↦ apart_by new (old_things objects new) lanes.beside members_old t u i k both
+            | inr k ↦ apart_by new new lanes.within members_new t u i k both
           ];
     }

@@ -19,6 +19,7 @@ use Rattle.plan_laws.specs.Old.{old_layout, old_things}
 use Rattle.plan_laws.specs.Plans.{PlanChange, hitless_rank}
 use Rattle.plan_laws.specs.Steady.{IsForwarding, IsHitless, IsOldOrNew, StaysNew}
 use Rattle.plan_laws.proofs.Allowed.{IsSafePlan, hitless-safe}
+use Rattle.plan_laws.proofs.Apart.{apart-old}
 use Rattle.plan_laws.proofs.Calling.{IsCalled, plan-called}
 use Rattle.plan_laws.proofs.Chip.{chip-either, chip-hitless, chip-kept, chip-origin}
 use Rattle.plan_laws.proofs.Running.{IsBreak, IsEnd, later-cut, later-same, plan-alike, run-cut, run-end}
@@ -28,7 +29,7 @@ use Rattle.plan_laws.proofs.Targets.{IsTaggedPlan}
 
 module _ {capacities : List ℕ} {made : ℕ} {objects : Objects} {new : List Thing} {plan : List PlanChange} (x : IsHitlessPlan capacities made objects new plan) where
   pub plan-safe : IsSafePlan hitless_rank (old_things objects new) new plan
-  plan-safe = record { safe = hitless-safe; old_named = old-named x.chip new; new_named = x.view.named; within = x.view.within; lanes = x.lanes; is_plan = x.is_plan }
+  plan-safe = record { safe = hitless-safe; old_named = old-named x.chip new; new_named = x.view.named; within = x.view.within; apart = apart-old x.view x.chip x.lanes; is_plan = x.is_plan }
 
   plan_tagged : IsTaggedPlan (hops_by_tag x.chip new) (old_things objects new) new plan
   plan_tagged = record { safe = plan-safe; grouped = x.view.grouped; tagged = old-tagged x.chip new; same = λ hops i. hops-same x.chip new hops (x.view.grouped.rising hops i) }

@@ -96,9 +96,11 @@ resolves-next at capacities c calls later is start view ids makes before = recor
 
 entry_back : (ids : Vid → Rid) (e : Entry Rid) → entry_renamed (resolve ids) (old_entry e) ≡ e
 entry_back ids (entry.Oid r) = refl
-entry_back ids (entry.Own ip) = refl
+entry_back ids (entry.Own None ip) = refl
+entry_back ids (entry.Own (Some r) ip) = refl
 entry_back ids (entry.Neigh r ip) = refl
-entry_back ids (entry.Route p) = refl
+entry_back ids (entry.Route None p) = refl
+entry_back ids (entry.Route (Some r) p) = refl
 
 pub to_resolved : {I J : Type 0} (f : I → J) (g : Goal) (i : I) → to_renamed f (to_with g i) ≡ to_with g (f i)
 to_resolved f goal.Drop i = refl
@@ -127,10 +129,10 @@ module _ (start : Layout Rid) (view : Layout Vid) (ids : Vid → Rid) where
   change_resolved now r (thing.Port p) (attr.Up x) v well h = h
   change_resolved now r (thing.VlanMember vlan lane tagging) (attr.Tagging x) v well h = h
   change_resolved now r (thing.Neighbor hop mac) (attr.Mac m) v well h = h
-  change_resolved now r (thing.Route p g) (attr.To x) v well h = (
+  change_resolved now r (thing.Route z p g) (attr.To x) v well h = (
     h.0,
     f h.1,
-    at_resolved start view ids now r (goal_name h.0) h.1 (first-numbered (thing.Route p h.0)) (λ k e. well k (first-refers v k (ap first_name h.4 ∙ e))) h.2,
+    at_resolved start view ids now r (goal_name h.0) h.1 (first-numbered (thing.Route z p h.0)) (λ k e. well k (first-refers v k (ap first_name h.4 ∙ e))) h.2,
     ap (to_renamed f) h.3 ∙ to_resolved f h.0 h.1,
     h.4,
   )

@@ -3,6 +3,7 @@ use Rattle.std.proofs.Common.{◌≡◌, ◌⊎◌, inl, inr, ℕ, ◌++◌, Lis
 use Rattle.std.proofs.lemmas.List.{append_assoc}
 use Rattle.swss_types.specs.Address.{IsProperPrefix}
 use Rattle.swss_types.specs.declared.vrf.Packet.{Packet}
+use Rattle.swss_types.specs.declared.vrf.Vrf.{Vrf}
 use Rattle.swss_types.specs.declared.address.Prefix.{Prefix}
 use Rattle.sai_types.specs.declared.ids.Rid.{Rid}
 use Rattle.sai_types.specs.declared.weight.WHop.{WHop}
@@ -38,14 +39,14 @@ module _ (hops_of : List WHop → List WHop) where
   real = real_route hops_of
 
   real_name : (t : Thing) → name_of (real t) ≡ name_of t
-  real_name (thing.Route p g) = refl
+  real_name (thing.Route v p g) = refl
   real_name _ = refl
 
-  goal_fixed : (p : Prefix) (g : Goal) (new : List Thing) → ((hops : List WHop) → IsIn (thing.Group hops) new → hops_of hops ≡ hops) → ((tag : List WHop) → IsIn (thing.Route p (goal.Group tag)) new → IsIn (thing.Group tag) new) → IsIn (thing.Route p g) new → real_goal hops_of g ≡ g
-  goal_fixed p goal.Drop new same there i = refl
-  goal_fixed p (goal.Direct on) new same there i = refl
-  goal_fixed p (goal.Via hop) new same there i = refl
-  goal_fixed p (goal.Group tag) new same there i = ap goal.Group (same tag (there tag i))
+  goal_fixed : (v : Vrf) (p : Prefix) (g : Goal) (new : List Thing) → ((hops : List WHop) → IsIn (thing.Group hops) new → hops_of hops ≡ hops) → ((tag : List WHop) → IsIn (thing.Route v p (goal.Group tag)) new → IsIn (thing.Group tag) new) → IsIn (thing.Route v p g) new → real_goal hops_of g ≡ g
+  goal_fixed v p goal.Drop new same there i = refl
+  goal_fixed v p (goal.Direct on) new same there i = refl
+  goal_fixed v p (goal.Via hop) new same there i = refl
+  goal_fixed v p (goal.Group tag) new same there i = ap goal.Group (same tag (there tag i))
 
 module _ {hops_of : List WHop → List WHop} {old new : List Thing} {plan : List PlanChange} (q : IsTaggedPlan hops_of old new plan) where
   abbrev shown : List Thing
@@ -59,12 +60,12 @@ module _ {hops_of : List WHop → List WHop} {old new : List Thing} {plan : List
 
   -- a new thing has its real hops
   new_real : (t : Thing) → IsIn t new → real hops_of t ≡ t
-  new_real (thing.Route p g) i = ap (thing.Route p) (goal_fixed hops_of p g new q.same (λ tag j. group-of_route q p tag j) i)
+  new_real (thing.Route v p g) i = ap (thing.Route v p) (goal_fixed hops_of v p g new q.same (λ tag j. group-of_route q v p tag j) i)
   new_real _ i = refl
 
-  proper_by : (p : Prefix) (g : Goal) (t : Thing) → IsIn t old → real hops_of t ≡ thing.Route p g → IsProperPrefix p
-  proper_by p g (thing.Route r h) i e = let is : r ≡ p = cc in q.safe.old_named.proper p h (subst (λ z. IsIn (thing.Route z h) old) is i)
-  proper_by p g _ i e = absurd cc
+  proper_by : (v : Vrf) (p : Prefix) (g : Goal) (t : Thing) → IsIn t old → real hops_of t ≡ thing.Route v p g → IsProperPrefix p
+  proper_by v p g (thing.Route w r h) i e = let is : r ≡ p = cc in q.safe.old_named.proper w p h (subst (λ z. IsIn (thing.Route w z h) old) is i)
+  proper_by v p g _ i e = absurd cc
 
   shown_named : HaveOwnNames shown
   shown_named = record {
@@ -72,7 +73,7 @@ module _ {hops_of : List WHop → List WHop} {old new : List Thing} {plan : List
         let x = shown_in t i in
         let y = shown_in u j in
         sym x.2 ∙ ap (real hops_of) (q.safe.old_named.one x.0 y.0 x.1 y.1 (x.3 ∙ e ∙ sym y.3)) ∙ y.2;
-    proper = λ p g i. let x = shown_in (thing.Route p g) i in proper_by p g x.0 x.1 x.2;
+    proper = λ v p g i. let x = shown_in (thing.Route v p g) i in proper_by v p g x.0 x.1 x.2;
   }
 
   -- the plan leads from what the chip shows as it does from the things with tags
@@ -89,8 +90,8 @@ module _ {hops_of : List WHop → List WHop} {old new : List Thing} {plan : List
   module _ (done due : List PlanChange) (cut : plan ≡ done ++ due) {layout : Layout Rid} {made : ℕ} {objects : Objects} (at : IsMidMoment old done layout made objects) where
     targets : AreTargets hops_of layout
     targets = record {
-      rising = λ i p tag h. target-rising q done due cut p tag (at.sound i _ (λ x. x) h);
-      have = λ i p tag hop h j. at.all (thing.GroupMember tag hop) (λ x. x) (member-there q done due cut p tag hop (at.sound i _ (λ x. x) h) j);
+      rising = λ i v p tag h. target-rising q done due cut v p tag (at.sound i _ (λ x. x) h);
+      have = λ i v p tag hop h j. at.all (thing.GroupMember tag hop) (λ x. x) (member-there q done due cut v p tag hop (at.sound i _ (λ x. x) h) j);
       only = λ j tag hop h. member-only q done due cut tag hop (at.sound j _ (λ x. x) h);
     }
 

@@ -20,13 +20,14 @@ use Rattle.plan_laws.specs.Old.{old_layout, old_things}
 use Rattle.plan_laws.specs.Plans.{PlanChange, cold_rank}
 use Rattle.plan_laws.specs.Views.{HaveOwnNames, HasRoomForPlan, made_names}
 use Rattle.plan_laws.proofs.Allowed.{IsSafePlan, cold-safe, ends-new}
+use Rattle.plan_laws.proofs.Apart.{apart-new}
 use Rattle.plan_laws.proofs.Calling.{plan-called}
 use Rattle.plan_laws.proofs.Rooms.{makes-lacking}
 use Rattle.plan_laws.proofs.Running.{IsEnd, after-append, legal-append, plan-alike, run-end}
 use Rattle.plan_laws.proofs.Starting.{first-moment, old-named}
 
 none_named : HaveOwnNames []
-none_named = record { one = λ t u i j e. elim i [ ]; proper = λ p g i. elim i [ ] }
+none_named = record { one = λ t u i j e. elim i [ ]; proper = λ v p g i. elim i [ ] }
 
 none_long : {X : Type 0} (xs : List X) → ((x : X) → IsIn x xs → ⊥) → length xs ≤ 0
 none_long [] none = omega arith
@@ -39,12 +40,12 @@ module _ {capacities : List ℕ} {made : ℕ} {objects : Objects} {new : List Th
     old_named = old-named x.chip new;
     new_named = none_named;
     within = record { refers = λ t k i r. elim i [ ] };
-    lanes = record { apart = λ t u i j l. elim i [ ] };
+    apart = record { each = λ t u i j l. elim i [ ] };
     is_plan = x.removing;
   }
 
   pub makes-safe : IsSafePlan cold_rank [] new makes
-  makes-safe = record { safe = cold-safe; old_named = none_named; new_named = x.view.named; within = x.view.within; lanes = x.lanes; is_plan = x.making }
+  makes-safe = record { safe = cold-safe; old_named = none_named; new_named = x.view.named; within = x.view.within; apart = apart-new x.view x.lanes; is_plan = x.making }
 
   pub removes_room : HasRoomForPlan capacities objects removes
   removes_room kind =

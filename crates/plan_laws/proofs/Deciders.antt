@@ -1,5 +1,5 @@
 -- which of some things decides a packet: the own address, else the covering route of the longest prefix
-use Rattle.std.proofs.Common.{◌≡◌, inl, inr, ◌⊎◌, ℕ, ◌≤◌, Bool, true, false, cond, List, Option, None, Some, refl, sym, ap, ◌∙◌, subst, arith}
+use Rattle.std.proofs.Common.{◌≡◌, inl, inr, ◌⊎◌, ℕ, ◌≤◌, Bool, true, false, cond, List, Option, None, Some, refl, sym, ap, ap₂, ◌∙◌, subst, arith}
 use Rattle.std.proofs.lemmas.Bool.{false≢true}
 use Rattle.swss_types.specs.Address.{IsProperPrefix, covers}
 use Rattle.swss_types.specs.declared.vrf.Packet.{Packet}
@@ -18,43 +18,43 @@ use Rattle.plan_laws.specs.Views.{HaveOwnNames}
 
 -- a name that is not that of a route whose prefix is not proper
 abbrev pub IsGood : ThingName → Type 0
-IsGood (name.Route p) = IsProperPrefix p
+IsGood (name.Route v p) = IsProperPrefix p
 IsGood _ = Unit {0}
 
 pub len_within : (p : Prefix) → IsProperPrefix p → p.len ≤ 128
 len_within p proper = let one = proper.1 in let two = width-le p.ip.family in omega (arith, one, two)
 
 pub good-names : (ts : List Thing) → HaveOwnNames ts → (t : Thing) → IsIn t ts → IsGood (name_of t)
-good-names ts named (thing.Route p g) i = named.proper p g i
+good-names ts named (thing.Route v p g) i = named.proper v p g i
 good-names ts named _ i = tt
 
 -- what has a name decides a packet where nothing stronger does
 abbrev pub Decides : Packet → ThingName → Type 0
-Decides a (name.Own ip) = ip ≡ a.to
-Decides a (name.Route p) = covers p a.to ≡ true
+Decides a (name.Own v ip) = (v ≡ a.vrf) × (ip ≡ a.to)
+Decides a (name.Route v p) = (v ≡ a.vrf) × (covers p a.to ≡ true)
 Decides a _ = ⊥
 
 abbrev pub strength : ThingName → ℕ
-strength (name.Route p) = p.len
+strength (name.Route v p) = p.len
 strength _ = 129
 
 abbrev pub decision : Thing → Decision
-decision (thing.Own ip) = to.Cpu
-decision (thing.Route p g) = decision_of g
+decision (thing.Own v ip) = to.Cpu
+decision (thing.Route v p g) = decision_of g
 decision _ = to.Drop
 
 -- one name of a strength decides a packet
 one-decider : (a : Packet) (k m : ThingName) → IsGood k → IsGood m → Decides a k → Decides a m → strength k ≡ strength m → k ≡ m
-one-decider a (name.Own x) (name.Own y) g h e f same = ap name.Own (e ∙ sym f)
-one-decider a (name.Own x) (name.Route q) g h e f same = let small = len_within q h in absurd (omega (arith, small, same))
-one-decider a (name.Route p) (name.Own y) g h e f same = let small = len_within p g in absurd (omega (arith, small, same))
-one-decider a (name.Route p) (name.Route q) g h e f same = ap name.Route (prefix_unique p q a.to g h e f same)
-one-decider a (name.Own x) _ g h e f same = elim f [ ]
-one-decider a (name.Route x) _ g h e f same = elim f [ ]
+one-decider a (name.Own v x) (name.Own w y) g h e f same = ap₂ name.Own (e.0 ∙ sym f.0) (e.1 ∙ sym f.1)
+one-decider a (name.Own v x) (name.Route w q) g h e f same = let small = len_within q h in absurd (omega (arith, small, same))
+one-decider a (name.Route v p) (name.Own w y) g h e f same = let small = len_within p g in absurd (omega (arith, small, same))
+one-decider a (name.Route v p) (name.Route w q) g h e f same = ap₂ name.Route (e.0 ∙ sym f.0) (prefix_unique p q a.to g h e.1 f.1 same)
+one-decider a (name.Own v x) _ g h e f same = elim f [ ]
+one-decider a (name.Route v x) _ g h e f same = elim f [ ]
 one-decider a _ _ g h e f same = elim e [ ]
 
 pub strength-most : (k : ThingName) → IsGood k → strength k ≤ 129
-strength-most (name.Route p) g = let small = len_within p g in omega (arith, small)
+strength-most (name.Route v p) g = let small = len_within p g in omega (arith, small)
 strength-most _ g = omega arith
 
 -- the strongest of some things that decide the packet, and none
@@ -71,9 +71,9 @@ module _ (a : Packet) (ts : List Thing) (good : (t : Thing) → IsIn t ts → Is
   abbrev pub HasDecider : Type 0
   HasDecider = ((t : Thing) × IsStrongest a (λ u. IsIn u ts) t × (decide ts a ≡ decision t)) ⊎ (NoneDecides a (λ u. IsIn u ts) × (decide ts a ≡ to.Drop))
 
-  not_own : (t : Thing) → IsIn t ts → Decides a (name_of t) → has_own ts a ≡ false → (q : Prefix) × (g : Goal) × (t ≡ thing.Route q g) × (covers q a.to ≡ true)
-  not_own (thing.Own ip) i e none = absurd (false≢true (sym none ∙ in-has_own ts a (subst (λ x. IsIn (thing.Own x) ts) e i)))
-  not_own (thing.Route q g) i e none = (q, g, refl, e)
+  not_own : (t : Thing) → IsIn t ts → Decides a (name_of t) → has_own ts a ≡ false → (q : Prefix) × (g : Goal) × (t ≡ thing.Route a.vrf q g) × (covers q a.to ≡ true)
+  not_own (thing.Own v ip) i e none = absurd (false≢true (sym none ∙ in-has_own ts a (subst (λ x. IsIn (thing.Own a.vrf x) ts) e.1 (subst (λ z. IsIn (thing.Own z ip) ts) e.0 i))))
+  not_own (thing.Route v q g) i e none = (q, g, ap (λ z. thing.Route z q g) e.0, e.1)
   not_own _ i e none = elim e [ ]
 
   by_route : (o : Option (Prefix × Goal)) → has_own ts a ≡ false → best_route ts a ≡ o → IsAnswer ts a o → HasDecider
@@ -84,10 +84,10 @@ module _ (a : Packet) (ts : List Thing) (good : (t : Thing) → IsIn t ts → Is
       )
   by_route (Some b) none best answer =
       inl (
-        thing.Route b.0 b.1,
+        thing.Route a.vrf b.0 b.1,
         record {
           there = answer.here;
-          decides = answer.covering;
+          decides = (refl, answer.covering);
           most = λ u i e. let r = not_own u i e none in subst (λ z. strength (name_of z) ≤ b.0.len) (sym r.2) (answer.longest r.0 r.1 r.3 (subst (λ z. IsIn z ts) r.2 i));
         },
         ap (λ c. cond c to.Cpu (decide_route (best_route ts a))) none ∙ ap decide_route best,
@@ -95,7 +95,7 @@ module _ (a : Packet) (ts : List Thing) (good : (t : Thing) → IsIn t ts → Is
 
   by_own : (b : Bool) → has_own ts a ≡ b → HasDecider
   by_own false e = by_route (best_route ts a) e refl (answer_is ts a)
-  by_own true e = inl (thing.Own a.to, record { there = has_own-in ts a e; decides = refl; most = λ u i d. strength-most (name_of u) (good u i) }, ap (λ c. cond c to.Cpu (decide_route (best_route ts a))) e)
+  by_own true e = inl (thing.Own a.vrf a.to, record { there = has_own-in ts a e; decides = (refl, refl); most = λ u i d. strength-most (name_of u) (good u i) }, ap (λ c. cond c to.Cpu (decide_route (best_route ts a))) e)
 
   pub decided : HasDecider
   decided = by_own (has_own ts a) refl

@@ -1,9 +1,11 @@
 -- an object's name among the old things is the one that it shows, but of groups that do not stay and their members
-use Rattle.std.proofs.Common.{◌≡◌, inl, inr, ◌⊎◌, ℕ, zero, suc, ◌<◌, Bool, true, false, cond, ◌&&◌, not, nat_lt, List, map, Some, option_map, refl, sym, ap, ap₂, ◌∙◌, subst, arith}
+use Rattle.std.proofs.Common.{◌≡◌, inl, inr, ◌⊎◌, ℕ, zero, suc, ◌<◌, Bool, true, false, cond, ◌&&◌, not, nat_lt, List, map, Option, Some, option_map, refl, sym, ap, ap₂, ◌∙◌, subst, arith}
 use Rattle.std.proofs.lemmas.Bool.{and_from, and_parts, eq-eqb, false≢true, ltb-true}
 use Rattle.std.proofs.lemmas.Option.{same_Some}
 use Rattle.sai_types.specs.declared.ids.Rid.{Rid}
+use Rattle.sai_types.specs.declared.hop.Base.{Base}
 use Rattle.sai_types.specs.declared.weight.WHop.{WHop}
+use Rattle.swss_types.specs.declared.vrf.Vrf.{Vrf}
 use Rattle.sai_types.specs.declared.body.Body.{Body}
 use Rattle.sai_types.specs.declared.body.Body.TheVariants as body
 use Rattle.sai_types.specs.declared.body.Entry.{Entry}
@@ -18,24 +20,24 @@ use Rattle.swss_types.proofs.Proper.{mapped}
 use Rattle.sai_types.specs.declared.thing.Thing.{Thing}
 use Rattle.sai_types.specs.declared.thing.Thing.TheVariants as thing
 use Rattle.sai_types.specs.Alike.{IsIn}
-use Rattle.sai_types.specs.Named.{both, goal_by, hops_at, named, next_hop_at, thing_by, thing_of, whop_at}
+use Rattle.sai_types.specs.Named.{both, goal_by, hops_at, named, next_hop_at, router_at, thing_by, thing_of, whop_at}
 use Rattle.sai_types.specs.Names as name
 use Rattle.sai_types.specs.Names.{ThingName, name_of}
 use Rattle.sai_types.specs.Objects.{Objects, body_at}
 use Rattle.sai_types.specs.Refusal.{same_id}
-use Rattle.sai_types.proofs.Exact.{entry-exact}
 use Rattle.sai_types.proofs.Found.{same-refl}
-use Rattle.sai_types.proofs.Listed.{found-in, in-found, object-of_thing}
+use Rattle.sai_types.proofs.Listed.{found-in, object-of_thing}
 use Rattle.sai_types.proofs.Things.{both_mapped}
 use Rattle.sai_types.proofs.Membership.{map-in}
+use Rattle.chip_layout.specs.Bodies.{IsBody, vr_with}
 use Rattle.chip_layout.specs.Layout.{Has}
 use Rattle.chip_layout.specs.Seen.{tagged}
-use Rattle.chip_layout.proofs.Answering.{in_those, thing_in, those_in}
+use Rattle.chip_layout.proofs.Answering.{stands, those_in}
 use Rattle.chip_layout.proofs.Seeing.{body-seen, shown}
 use Rattle.plan_laws.specs.Applied.{IsListedChip, IsView, chip_things}
 use Rattle.plan_laws.specs.Bounds.{IsDouble}
 use Rattle.plan_laws.specs.Old.{filler, chip_group, group_stays, chip_groups, hops_or_none, is_double, is_group_of, old_layout, old_things, same_hops, shown_hops, tag_of}
-use Rattle.plan_laws.specs.Views.{AreLacking, FitsHitless}
+use Rattle.plan_laws.specs.Views.{AreLacking, FitsHitless, SameRouters}
 use Rattle.plan_laws.proofs.Lists.{any-in, in-any}
 use Rattle.plan_laws.proofs.Named.{same_hops_exact, hops_refl}
 use Rattle.plan_laws.proofs.Starting.{group-seen, group-there, hops-same, hops-there, object-seen, old-seen, old-tagged, rises}
@@ -44,9 +46,9 @@ use Rattle.plan_laws.proofs.Targets.{is-group, is-member}
 
 pub is_grouped : (o : Entry Rid × Body Rid) (g : Rid) → Some g ≡ chip_group o → (o.0 ≡ entry.Oid g) × (o.1 ≡ body.Group)
 is_grouped (entry.Oid h, body.Group) g e = let same : g ≡ h = cc in (ap entry.Oid (sym same), refl)
-is_grouped (entry.Own ip, body.Group) g e = absurd cc
+is_grouped (entry.Own v ip, body.Group) g e = absurd cc
 is_grouped (entry.Neigh r ip, body.Group) g e = absurd cc
-is_grouped (entry.Route p, body.Group) g e = absurd cc
+is_grouped (entry.Route v p, body.Group) g e = absurd cc
 is_grouped (e, body.Port l s m u) g h = absurd cc
 is_grouped (e, _) g h = absurd cc
 
@@ -82,13 +84,13 @@ module _ {made : ℕ} {objects : Objects} (chip : IsListedChip made objects) (ne
       let tags : k.0 ≡ tag g = sym (same_Some (tag g) k.0 k.2) in
       let one : k.1 ≡ m.1 = same_Some k.1 m.1 (sym k.3 ∙ m.3) in
       inr (inr (g, n, m.1, ap (λ (v : WHop). body.GroupMember g n v.weight) is.2, sym m.4 ∙ ap (λ h. thing.GroupMember h m.1) (these_hops g m.0 m.2), sym k.4 ∙ ap₂ (λ a c. thing.GroupMember a c) tags one))
-  names e (body.Route p t) u w x y =
-      let m = mapped (thing.Route p) (goal_by (hops_at objects) objects t) u x in
-      let k = mapped (thing.Route p) (goal_by (tagged tag) objects t) w y in
-      inl (sym (ap name_of m.2) ∙ ap name_of k.2)
-  names (entry.Own ip) body.Group u w x y = absurd cc
+  names e (body.Route vr p t) u w x y =
+      let m = both_mapped (λ v g. thing.Route v p g) (router_at objects vr) (goal_by (hops_at objects) objects t) u x in
+      let k = both_mapped (λ v g. thing.Route v p g) (router_at objects vr) (goal_by (tagged tag) objects t) w y in
+      inl (sym (ap name_of m.4) ∙ ap (λ v. name.Route v p) (same_Some m.0 k.0 (sym m.2 ∙ k.2)) ∙ ap name_of k.4)
+  names (entry.Own v ip) body.Group u w x y = absurd cc
   names (entry.Neigh r ip) body.Group u w x y = absurd cc
-  names (entry.Route p) body.Group u w x y = absurd cc
+  names (entry.Route v p) body.Group u w x y = absurd cc
   names e (body.Port l s m v) u w x y = inl (ap name_of (same_Some u w (sym x ∙ y)))
   names e _ u w x y = inl (ap name_of (same_Some u w (sym x ∙ y)))
 
@@ -220,18 +222,23 @@ module _ {made : ℕ} {objects : Objects} (chip : IsListedChip made objects) (ne
   real_tag : (g : Rid) → IsIn (thing.Group (tag g)) new → hops g ≡ tag g
   real_tag g i = sym (hops-of_tag (group_stays objects new) (shown_hops objects) (rises chip new) g) ∙ hops-same chip new (tag g) (view.grouped.rising (tag g) i)
 
-  goal_there : (e : Entry Rid) (p : Prefix) (t : To Rid) (g : Goal) → body_at objects e ≡ Some (body.Route p t) → goal_by (tagged tag) objects t ≡ Some g → (h : Goal) × (goal_by (hops_at objects) objects t ≡ Some h)
-  goal_there e p to.Drop g found is = (goal.Drop, refl)
-  goal_there e p (to.Rif r) g found is = (g, is)
-  goal_there e p (to.NextHop n) g found is = (g, is)
-  goal_there e p (to.Group r) g found is =
-      let of = body-seen tag made objects chip.whole e (body.Route p (to.Group r)) (thing.Route p (goal.Group (tag r))) found refl in
-      let same : of.first ≡ r = sym (target_of r of.first of.body_is) in
-      let there = group-there chip new (tag r) r (subst (Has (old_layout objects new) (name.Group (tag r))) same of.first_at) in
-      (goal.Group (hops r), ap (option_map goal.Group) (hops-there chip new r (tag r) there))
+  goal_there : (e : Entry Rid) (vr : Option Rid) (p : Prefix) (t : To Rid) (g : Goal) → body_at objects e ≡ Some (body.Route vr p t) → goal_by (tagged tag) objects t ≡ Some g → (h : Goal) × (goal_by (hops_at objects) objects t ≡ Some h)
+  goal_there e vr p to.Drop g found is = (goal.Drop, refl)
+  goal_there e vr p (to.Rif r) g found is = (g, is)
+  goal_there e vr p (to.NextHop n) g found is = (g, is)
+  goal_there e vr p (to.Group r) g found is =
+      let seen = shown tag made objects chip.whole e (body.Route vr p (to.Group r)) found (chip.whole.refer.each e (body.Route vr p (to.Group r)) found) in
+      group_there_by seen.0 seen.1 seen.2 (both_mapped (λ v g. thing.Route v p g) (router_at objects vr) (Some (goal.Group (tag r))) seen.0 seen.1)
     where
-      target_of : (x y : Rid) → body.Route p (to.Group x) ≡ body.Route p (to.Group y) → x ≡ y
-      target_of x y h = cc
+      target_of : (v : Vrf) (x y : Rid) (z w : Option Rid) → body.Route z p (to.Group x) ≡ body.Route w p (to.Group y) → x ≡ y
+      target_of v x y z w h = cc
+
+      group_there_by : (t : Thing) → thing_by (tagged tag) objects (e, body.Route vr p (to.Group r)) ≡ Some t → IsBody (Has (old_layout objects new)) t (body.Route vr p (to.Group r)) → (v : Vrf) × (g : Goal) × (router_at objects vr ≡ Some v) × (Some (goal.Group (tag r)) ≡ Some g) × (thing.Route v p g ≡ t) → (h : Goal) × (goal_by (hops_at objects) objects (to.Group r) ≡ Some h)
+      group_there_by t is of (v, g, at, goal_is, t_is) =
+          let of' : IsBody (Has (old_layout objects new)) (thing.Route v p (goal.Group (tag r))) (body.Route vr p (to.Group r)) = subst (λ z. IsBody (Has (old_layout objects new)) z (body.Route vr p (to.Group r))) (sym t_is ∙ ap (thing.Route v p) (sym (same_Some (goal.Group (tag r)) g goal_is))) of in
+          let same : of'.first ≡ r = sym (target_of v r of'.first vr (vr_with v of'.second) of'.body_is) in
+          let there = group-there chip new (tag r) r (subst (Has (old_layout objects new) (name.Group (tag r))) same of'.first_at) in
+          (goal.Group (hops r), ap (option_map goal.Group) (hops-there chip new r (tag r) there))
 
   abbrev ShownAs : Entry Rid → Body Rid → ThingName → Type 0
   ShownAs e b n = (v : Thing) × (thing_of objects (e, b) ≡ Some v) × (name_of v ≡ n)
@@ -251,13 +258,13 @@ module _ {made : ℕ} {objects : Objects} (chip : IsListedChip made objects) (ne
       let real = real_tag g (subst (λ z. IsIn z new) (is-group group.0 (tag g) group.2) group.1) in
       let there = member_group e g n weight k.1 found (is ∙ ap Some u_is) in
       (thing.GroupMember (hops g) k.1, ap₂ (both thing.GroupMember) (hops_of_group g (group_found g there)) k.3, ap (λ h. name.GroupMember h k.1) real ∙ sym (ap name_of u_is) ∙ same)
-  shown_as e (body.Route p r) u t found is i same =
-      let k = mapped (thing.Route p) (goal_by (tagged tag) objects r) u is in
-      let h = goal_there e p r k.0 found k.1 in
-      (thing.Route p h.0, ap (option_map (thing.Route p)) h.1, ap name_of k.2 ∙ same)
-  shown_as (entry.Own ip) body.Group u t found is i same = absurd cc
+  shown_as e (body.Route vr p r) u t found is i same =
+      let k = both_mapped (λ v g. thing.Route v p g) (router_at objects vr) (goal_by (tagged tag) objects r) u is in
+      let h = goal_there e vr p r k.1 found k.3 in
+      (thing.Route k.0 p h.0, ap₂ (both (λ v g. thing.Route v p g)) k.2 h.1, ap name_of k.4 ∙ same)
+  shown_as (entry.Own v ip) body.Group u t found is i same = absurd cc
   shown_as (entry.Neigh r ip) body.Group u t found is i same = absurd cc
-  shown_as (entry.Route p) body.Group u t found is i same = absurd cc
+  shown_as (entry.Route v p) body.Group u t found is i same = absurd cc
   shown_as e (body.Port l s m v) u t found is i same = (u, is, same)
   shown_as e _ u t found is i same = (u, is, same)
 
@@ -265,9 +272,7 @@ module _ {made : ℕ} {objects : Objects} (chip : IsListedChip made objects) (ne
   old_shown u t i j same =
       let s = (old-seen chip new u i).1 in
       let v = shown_as s.entry s.body u t s.found s.thing j same in
-      let o = in-found objects s.entry s.body s.found in
-      let is : thing_of objects (o.0, s.body) ≡ Some v.0 = ap (λ d. thing_of objects (d, s.body)) (sym (entry-exact s.entry o.0 o.1)) ∙ v.1 in
-      (v.0, in_those v.0 (named objects) (subst (λ z. IsIn z (named objects)) is (thing_in objects objects o.0 s.body o.2)), v.2)
+      (v.0, stands made objects chip.whole chip.lanes v.0 (s.entry, s.body, s.found, v.1), v.2)
 
   -- so names that the chip does not show are names that no old thing has
   pub shown-lacking : (kind : Kind) (ks : List ThingName) → AreLacking (chip_things objects) new kind ks → AreLacking (old_things objects new) new kind ks
@@ -277,3 +282,33 @@ module _ {made : ℕ} {objects : Objects} (chip : IsListedChip made objects) (ne
         let x = l.each k i in
         (x.0, x.1, x.2, x.3, λ u j e. let v = old_shown u x.1 j x.2 (e ∙ sym x.3) in x.4 v.0 v.1 (v.2 ∙ x.3));
   }
+
+  -- ---- virtual routers
+
+  -- an interface is the same thing whatever hops groups have
+  rif_same : (some others : Rid → Option (List WHop)) (e : Entry Rid) (b : Body Rid) (on : Base) (v : Vrf) → thing_by some objects (e, b) ≡ Some (thing.Rif on v) → thing_by others objects (e, b) ≡ Some (thing.Rif on v)
+  rif_same some others (entry.Oid g) body.Group on v h = let is = (mapped thing.Group (some g) (thing.Rif on v) h).2 in absurd cc
+  rif_same some others e (body.GroupMember g n weight) on v h = let is = (both_mapped thing.GroupMember (some g) (whop_at objects n weight) (thing.Rif on v) h).4 in absurd cc
+  rif_same some others e (body.Route vr p t) on v h = let is = (both_mapped (λ z g. thing.Route z p g) (router_at objects vr) (goal_by some objects t) (thing.Rif on v) h).4 in absurd cc
+  rif_same some others (entry.Own w ip) body.Group on v h = h
+  rif_same some others (entry.Neigh r ip) body.Group on v h = h
+  rif_same some others (entry.Route w p) body.Group on v h = h
+  rif_same some others e (body.Port l s m u) on v h = h
+  rif_same some others e _ on v h = h
+
+  rif_old : (on : Base) (v : Vrf) → IsIn (thing.Rif on v) (chip_things objects) → IsIn (thing.Rif on v) (old_things objects new)
+  rif_old on v i =
+      let o = object-of_thing objects objects (Some (thing.Rif on v)) (those_in (thing.Rif on v) (named objects) i) in
+      object-seen tag objects made chip.whole o.0 o.1 (thing.Rif on v) (found-in objects o.0 o.1 chip.whole.sorted o.2) (rif_same (hops_at objects) (tagged tag) o.0 o.1 on v (sym o.3))
+
+  rif_shown : (on : Base) (v : Vrf) → IsIn (thing.Rif on v) (old_things objects new) → IsIn (thing.Rif on v) (chip_things objects)
+  rif_shown on v i =
+      let s = (old-seen chip new (thing.Rif on v) i).1 in
+      stands made objects chip.whole chip.lanes (thing.Rif on v) (s.entry, s.body, s.found, rif_same (tagged tag) (hops_at objects) s.entry s.body on v s.thing)
+
+  -- so the old interfaces keep their virtual routers where those that the chip shows do, and the other way round
+  pub routers-shown : SameRouters (chip_things objects) new → SameRouters (old_things objects new) new
+  routers-shown same on v w i j = same on v w (rif_shown on v i) j
+
+  pub routers-shown-back : SameRouters (old_things objects new) new → SameRouters (chip_things objects) new
+  routers-shown-back same on v w i j = same on v w (rif_old on v i) j

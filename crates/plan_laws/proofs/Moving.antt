@@ -16,45 +16,45 @@ use Rattle.plan_laws.proofs.Deciders.{Decides, IsGood, IsStrongest, NoneDecides,
 use Rattle.plan_laws.proofs.Following.{IsUntouched, before, done-in, done-stands, new-stands, old-new, old-stands, origin, outcome-named, outcome-new, still}
 
 decides_forwarding : (a : Packet) (k : ThingName) → Decides a k → IsForwarding k
-decides_forwarding a (name.Own ip) h = tt
-decides_forwarding a (name.Route p) h = tt
+decides_forwarding a (name.Own w ip) h = tt
+decides_forwarding a (name.Route v p) h = tt
 decides_forwarding a _ h = elim h [ ]
 
 good_if : (k : ThingName) → (IsForwarding k → IsGood k) → IsGood k
-good_if (name.Route p) h = h tt
+good_if (name.Route v p) h = h tt
 good_if _ h = tt
 
 -- ---- of what decides an address the stronger is made first and removed last
 
 make_falls : (a : Packet) (k m : ThingName) → IsGood m → Decides a k → Decides a m → strength k < strength m → make_place m < make_place k
-make_falls a (name.Route p) (name.Route q) good x y less = let most = strength-most (name.Route q) good in omega (arith, less, most)
-make_falls a (name.Route p) (name.Own ip) good x y less = omega (arith, less)
-make_falls a (name.Own ip) m good x y less = let most = strength-most m good in absurd (omega (arith, less, most))
-make_falls a (name.Route p) _ good x y less = elim y [ ]
+make_falls a (name.Route v p) (name.Route w q) good x y less = let most = strength-most (name.Route w q) good in omega (arith, less, most)
+make_falls a (name.Route v p) (name.Own w ip) good x y less = omega (arith, less)
+make_falls a (name.Own w ip) m good x y less = let most = strength-most m good in absurd (omega (arith, less, most))
+make_falls a (name.Route v p) _ good x y less = elim y [ ]
 make_falls a _ _ good x y less = elim x [ ]
 
 remove_rises : (a : Packet) (k m : ThingName) → IsGood m → Decides a k → Decides a m → strength k < strength m → remove_place k < remove_place m
-remove_rises a (name.Route p) (name.Route q) good x y less = omega (arith, less)
-remove_rises a (name.Route p) (name.Own ip) good x y less = omega (arith, less)
-remove_rises a (name.Own ip) m good x y less = let most = strength-most m good in absurd (omega (arith, less, most))
-remove_rises a (name.Route p) _ good x y less = elim y [ ]
+remove_rises a (name.Route v p) (name.Route w q) good x y less = omega (arith, less)
+remove_rises a (name.Route v p) (name.Own w ip) good x y less = omega (arith, less)
+remove_rises a (name.Own w ip) m good x y less = let most = strength-most m good in absurd (omega (arith, less, most))
+remove_rises a (name.Route v p) _ good x y less = elim y [ ]
 remove_rises a _ _ good x y less = elim x [ ]
 
 route_set : (a : Packet) (k m : ThingName) → IsGood m → Decides a k → strength k < strength m → set_place k ≡ 800
-route_set a (name.Route p) m good x less = refl
-route_set a (name.Own ip) m good x less = let most = strength-most m good in absurd (omega (arith, less, most))
+route_set a (name.Route v p) m good x less = refl
+route_set a (name.Own w ip) m good x less = let most = strength-most m good in absurd (omega (arith, less, most))
 route_set a _ m good x less = elim x [ ]
 
 make_most : (k : ThingName) → make_place k ≤ 728
-make_most (name.Route p) = omega arith
+make_most (name.Route v p) = omega arith
 make_most _ = omega arith
 
 pub set-most : (k : ThingName) → set_place k ≤ 800
-set-most (name.Route p) = omega arith
+set-most (name.Route v p) = omega arith
 set-most _ = omega arith
 
 remove_least : (k : ThingName) → 1000 ≤ remove_place k
-remove_least (name.Route p) = omega arith
+remove_least (name.Route v p) = omega arith
 remove_least _ = omega arith
 
 module _ (a : Packet) {old new : List Thing} (old_named : HaveOwnNames old) (new_named : HaveOwnNames new) {plan : List PlanChange} (is_plan : IsViewPlan hitless_rank old new plan) where

@@ -6,6 +6,9 @@ use Rattle.swss_types.specs.contracts.address.PrefixEq.TheImpl.Laws as equal_pre
 use Rattle.sai_types.specs.declared.hop.Hop.{Hop}
 use Rattle.sai_types.specs.declared.weight.WHop.{WHop}
 use Rattle.sai_types.specs.contracts.weight.WHopEq.TheImpl.Laws as equal_whop
+use Rattle.swss_types.specs.Vrf.{same_vrf, same_vrf_name}
+use Rattle.swss_types.proofs.Routers.{vrf-exact, vrf-refl, vrf_name-exact, vrf_name-refl}
+use Rattle.swss_types.specs.declared.vrf.Vrf.{Vrf}
 use Rattle.sai_types.specs.contracts.hop.BaseEq.TheImpl.Laws as equal_base
 use Rattle.sai_types.specs.contracts.hop.BasePartialEq.TheImpl as base_eq
 use Rattle.sai_types.specs.contracts.hop.HopEq.TheImpl.Laws as equal_hop
@@ -15,7 +18,7 @@ use Rattle.sai_types.specs.Names.{ThingName}
 use Rattle.sai_types.specs.Refusal.{same_ip, same_prefix}
 use Rattle.sai_types.proofs.Exact.{ip-exact, prefix-exact}
 use Rattle.sai_types.proofs.Rising.{base-exact, hop-same, whop-same}
-use Rattle.sai_types.proofs.Things.{bridge_ports, group_members, groups, neighbors, next_hops, owns, ports, rifs, same_route_prefix, vlan_members, vlans}
+use Rattle.sai_types.proofs.Things.{bridge_ports, group_members, groups, neighbors, next_hops, owns, ports, rifs, routers, same_route, vlan_members, vlans}
 use Rattle.plan_laws.specs.Old.{same_hops, same_whop}
 
 pub same_hops_exact : (xs ys : List WHop) → same_hops xs ys ≡ true → xs ≡ ys
@@ -56,19 +59,23 @@ hop = told_apart_by_test same_hop hop-same equal_hop.laws-law.refl
 whop : (x y : WHop) → IsToldApart x y
 whop = told_apart_by_test same_whop whop-same equal_whop.laws-law.refl
 
+router : (x y : Vrf) → IsToldApart x y
+router = told_apart_by_test same_vrf vrf-exact vrf-refl
+
 hops : (xs ys : List WHop) → IsToldApart xs ys
 hops = told_apart_by_test same_hops same_hops_exact hops_refl
 
 pub same-or : (k m : ThingName) → (k ≡ m) ⊎ (k ≡ m → ⊥)
 same-or (name.Port m) (name.Port n) = under name.Port ports m n (numbers m n)
 same-or (name.Vlan m) (name.Vlan n) = under name.Vlan vlans m n (numbers m n)
+same-or (name.VirtualRouter m) (name.VirtualRouter n) = under name.VirtualRouter routers m n (told_apart_by_test same_vrf_name vrf_name-exact vrf_name-refl m n)
 same-or (name.BridgePort m) (name.BridgePort n) = under name.BridgePort bridge_ports m n (numbers m n)
 same-or (name.VlanMember m k) (name.VlanMember n l) = pairs_told_apart name.VlanMember (λ a b c d. vlan_members a c b d) m n k l (numbers m n) (numbers k l)
 same-or (name.Rif a) (name.Rif b) = under name.Rif rifs a b (told_apart_by_test base_eq.ghosts.eq base-exact equal_base.laws-law.refl a b)
-same-or (name.Own a) (name.Own b) = under name.Own owns a b (told_apart_by_test same_ip ip-exact equal_ip.laws-law.refl a b)
+same-or (name.Own v a) (name.Own w b) = pairs_told_apart name.Own (λ x y z u. owns x y z u) v w a b (router v w) (told_apart_by_test same_ip ip-exact equal_ip.laws-law.refl a b)
 same-or (name.Neighbor a) (name.Neighbor b) = under name.Neighbor neighbors a b (hop a b)
 same-or (name.NextHop a) (name.NextHop b) = under name.NextHop next_hops a b (hop a b)
 same-or (name.Group a) (name.Group b) = under name.Group groups a b (hops a b)
 same-or (name.GroupMember a x) (name.GroupMember b y) = pairs_told_apart name.GroupMember group_members a b x y (hops a b) (whop x y)
-same-or (name.Route a) (name.Route b) = under name.Route same_route_prefix a b (told_apart_by_test same_prefix prefix-exact equal_prefix.laws-law.refl a b)
+same-or (name.Route v a) (name.Route w b) = pairs_told_apart name.Route (λ x y z u. same_route x y z u) v w a b (router v w) (told_apart_by_test same_prefix prefix-exact equal_prefix.laws-law.refl a b)
 same-or _ _ = inr (λ e. absurd cc)

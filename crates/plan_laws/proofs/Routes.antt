@@ -1,10 +1,11 @@
 -- while a cold plan is made each route that the chip shows it showed before, or the view has it
-use Rattle.std.proofs.Common.{◌≡◌, inl, inr, ◌⊎◌, ◌≤◌, ℕ, ◌++◌, List, [], Some, refl, sym, ap, ◌∙◌, subst, arith}
+use Rattle.std.proofs.Common.{◌≡◌, inl, inr, ◌⊎◌, ◌≤◌, ℕ, ◌++◌, List, [], ◌∷◌, Some, refl, sym, ap, ◌∙◌, subst, arith}
 use Rattle.std.proofs.lemmas.List.{append-nil}
 use Rattle.sai_types.specs.declared.ids.Rid.{Rid}
 use Rattle.sai_types.specs.declared.weight.WHop.{WHop}
 use Rattle.sai_types.specs.declared.body.Call.{Call}
 use Rattle.swss_types.specs.declared.address.Prefix.{Prefix}
+use Rattle.swss_types.specs.declared.vrf.Vrf.{Vrf}
 use Rattle.sai_types.specs.declared.thing.Goal.{Goal}
 use Rattle.sai_types.specs.declared.thing.Goal.TheVariants as goal
 use Rattle.sai_types.specs.declared.thing.Thing.{Thing}
@@ -16,11 +17,13 @@ use Rattle.sai_types.specs.Names as name
 use Rattle.sai_types.specs.Names.{ThingName, name_of}
 use Rattle.sai_types.specs.Objects.{Objects}
 use Rattle.chip_layout.specs.Layout.{Layout}
+use Rattle.chip_layout.proofs.Bodies.{beside}
 use Rattle.plan_laws.specs.Applied.{AppliesCold, IsListedChip, chip_things}
 use Rattle.plan_laws.specs.Old.{old_things}
 use Rattle.plan_laws.specs.Plans.{IsViewPlan, Make, PlanChange, Remove, Set, cold_rank, outcome, stands_after_all}
 use Rattle.plan_laws.specs.Steady.{IsForwarding}
 use Rattle.plan_laws.specs.Views.{HaveWholeGroups, ReferWithin}
+use Rattle.plan_laws.proofs.Allowed.{highest}
 use Rattle.plan_laws.proofs.Chip.{no_port}
 use Rattle.plan_laws.proofs.Cold.{cold-halfway, makes-room, makes-safe, removes-safe, removes_room}
 use Rattle.plan_laws.proofs.Following.{IsUntouched, before, done-in, new-stands, old-new, old-stands, origin, outcome-new}
@@ -49,22 +52,22 @@ module _ {made : ℕ} {objects : Objects} (chip : IsListedChip made objects) (ne
           | inr c ↦ elim (outcome-new is_plan c.0 t (done-in is_plan done due cut c.0 c.1) c.2) [ ]
         ]
 
-    member_there : (p : Prefix) (tag : List WHop) (hop : WHop) → stands_after_all done (λ u. IsIn u old) (thing.Route p (goal.Group tag)) → IsIn hop (hops tag) → stands_after_all done (λ u. IsIn u old) (thing.GroupMember tag hop)
-    member_there p tag hop h i =
-        let route = stood (thing.Route p (goal.Group tag)) h in
-        elim (old-stands is_plan done due cut (thing.GroupMember tag hop) ((old-tagged chip new).have tag hop ((old-tagged chip new).there p tag route.0) i)) [
+    member_there : (v : Vrf) (p : Prefix) (tag : List WHop) (hop : WHop) → stands_after_all done (λ u. IsIn u old) (thing.Route v p (goal.Group tag)) → IsIn hop (hops tag) → stands_after_all done (λ u. IsIn u old) (thing.GroupMember tag hop)
+    member_there v p tag hop h i =
+        let route = stood (thing.Route v p (goal.Group tag)) h in
+        elim (old-stands is_plan done due cut (thing.GroupMember tag hop) ((old-tagged chip new).have tag hop ((old-tagged chip new).there v p tag route.0) i)) [
           | inl m ↦ subst (stands_after_all done (λ u. IsIn u old)) (is-member m.0 tag hop m.2) m.1
           | inr gone ↦
               let order = λ (d : PlanChange) (j : IsIn d due). (before is_plan done due cut (Remove (name.GroupMember tag hop)) d gone j).0 in
-              elim (old-new is_plan done due cut (old-named chip new) (thing.Route p (goal.Group tag)) route.0 route.1
+              elim (old-new is_plan done due cut (old-named chip new) (thing.Route v p (goal.Group tag)) route.0 route.1
               (λ t set same. let late = order (Set t) set in absurd (omega (arith, late)))
-              (λ remove. let late = order (Remove (name.Route p)) remove in absurd (omega (arith, late)))) [ ]
+              (λ remove. let late = order (Remove (name.Route v p)) remove in absurd (omega (arith, late)))) [ ]
         ]
 
     targets : AreTargets hops layout
     targets = record {
-      rising = λ i p tag h. (old-tagged chip new).rising tag ((old-tagged chip new).there p tag (stood _ (at.sound i _ (λ x. x) h)).0);
-      have = λ i p tag hop h j. at.all (thing.GroupMember tag hop) (λ x. x) (member_there p tag hop (at.sound i _ (λ x. x) h) j);
+      rising = λ i v p tag h. (old-tagged chip new).rising tag ((old-tagged chip new).there v p tag (stood _ (at.sound i _ (λ x. x) h)).0);
+      have = λ i v p tag hop h j. at.all (thing.GroupMember tag hop) (λ x. x) (member_there v p tag hop (at.sound i _ (λ x. x) h) j);
       only = λ j tag hop h. (old-tagged chip new).only tag hop (stood _ (at.sound j _ (λ x. x) h)).0;
     }
 
@@ -75,7 +78,7 @@ module _ {made : ℕ} {objects : Objects} (chip : IsListedChip made objects) (ne
         (x.1, (stood x.1 (at.sound x.0 x.1 (no_port (name_of x.1) fw') x.2)).0, fw', x.3)
       where
         same_name : (u : Thing) → name_of (real_route hops u) ≡ name_of u
-        same_name (thing.Route p g) = refl
+        same_name (thing.Route v p g) = refl
         same_name _ = refl
 
         forwards : (u t : Thing) → real_route hops u ≡ t → IsForwarding (name_of t) → IsForwarding (name_of u)
@@ -96,10 +99,10 @@ abbrev same_hops : List WHop → List WHop
 same_hops hops = hops
 
 real_same : (t : Thing) → real_route same_hops t ≡ t
-real_same (thing.Route p goal.Drop) = refl
-real_same (thing.Route p (goal.Direct on)) = refl
-real_same (thing.Route p (goal.Via hop)) = refl
-real_same (thing.Route p (goal.Group hops)) = refl
+real_same (thing.Route v p goal.Drop) = refl
+real_same (thing.Route v p (goal.Direct on)) = refl
+real_same (thing.Route v p (goal.Via hop)) = refl
+real_same (thing.Route v p (goal.Group hops)) = refl
 real_same _ = refl
 
 module _ {new : List Thing} {makes : List PlanChange} (is_plan : IsViewPlan cold_rank [] new makes) (within : ReferWithin new) (grouped : HaveWholeGroups new) (done due : List PlanChange) (cut : makes ≡ done ++ due) {layout : Layout Rid} {count : ℕ} {now : Objects} (at : IsMidMoment [] done layout count now) where
@@ -114,29 +117,29 @@ module _ {new : List Thing} {makes : List PlanChange} (is_plan : IsViewPlan cold
         | inr c ↦ (c.0, c.1, c.2, outcome-new is_plan c.0 t (done-in is_plan done due cut c.0 c.1) c.2)
       ]
 
-  group_of : (p : Prefix) (hops : List WHop) → IsIn (thing.Route p (goal.Group hops)) new → IsIn (thing.Group hops) new
-  group_of p hops i = let u = within.refers (thing.Route p (goal.Group hops)) (name.Group hops) i (inl refl) in subst (λ z. IsIn z new) (is-group u.0 hops u.2) u.1
+  group_of : (v : Vrf) (p : Prefix) (hops : List WHop) → IsIn (thing.Route v p (goal.Group hops)) new → IsIn (thing.Group hops) new
+  group_of v p hops i = let u = within.refers (thing.Route v p (goal.Group hops)) (name.Group hops) i (beside v (name.Group hops ∷ []) (name.Group hops) (inl refl)) in subst (λ z. IsIn z new) (is-group u.0 hops u.2) u.1
 
-  late : (c : PlanChange) (p : Prefix) (g : Goal) → outcome c ≡ Some (thing.Route p g) → 10 ≤ cold_rank c
-  late (Make t) p g e = let same : t ≡ thing.Route p g = cc in let rank : cold_rank (Make t) ≡ 10 = ap (λ u. cold_rank (Make u)) same in omega (arith, rank)
-  late (Set t) p g e = omega arith
-  late (Remove k) p g e = absurd cc
+  late : (c : PlanChange) (v : Vrf) (p : Prefix) (g : Goal) → outcome c ≡ Some (thing.Route v p g) → highest ≤ cold_rank c
+  late (Make t) v p g e = let same : t ≡ thing.Route v p g = cc in let rank : cold_rank (Make t) ≡ highest = ap (λ u. cold_rank (Make u)) same in omega (arith, rank)
+  late (Set t) v p g e = omega arith
+  late (Remove k) v p g e = absurd cc
 
-  member_made : (p : Prefix) (hops : List WHop) (hop : WHop) → stands (thing.Route p (goal.Group hops)) → IsIn hop hops → stands (thing.GroupMember hops hop)
-  member_made p hops hop h i =
-      let c = by_change (thing.Route p (goal.Group hops)) h in
-      elim (new-stands is_plan done due cut (thing.GroupMember hops hop) (grouped.have hops hop (group_of p hops c.3) i)) [
+  member_made : (v : Vrf) (p : Prefix) (hops : List WHop) (hop : WHop) → stands (thing.Route v p (goal.Group hops)) → IsIn hop hops → stands (thing.GroupMember hops hop)
+  member_made v p hops hop h i =
+      let c = by_change (thing.Route v p (goal.Group hops)) h in
+      elim (new-stands is_plan done due cut (thing.GroupMember hops hop) (grouped.have hops hop (group_of v p hops c.3) i)) [
         | inl m ↦ subst stands (is-member m.0 hops hop m.2) m.1
         | inr make ↦
             let order = (before is_plan done due cut c.0 (Make (thing.GroupMember hops hop)) c.1 make).0 in
-            let least = late c.0 p (goal.Group hops) c.2 in
+            let least = late c.0 v p (goal.Group hops) c.2 in
             absurd (omega (arith, order, least))
       ]
 
   made_targets : AreTargets same_hops layout
   made_targets = record {
-    rising = λ i p hops h. grouped.rising hops (group_of p hops (by_change _ (at.sound i _ (λ x. x) h)).3);
-    have = λ i p hops hop h j. at.all (thing.GroupMember hops hop) (λ x. x) (member_made p hops hop (at.sound i _ (λ x. x) h) j);
+    rising = λ i v p hops h. grouped.rising hops (group_of v p hops (by_change _ (at.sound i _ (λ x. x) h)).3);
+    have = λ i v p hops hop h j. at.all (thing.GroupMember hops hop) (λ x. x) (member_made v p hops hop (at.sound i _ (λ x. x) h) j);
     only = λ j hops hop h. grouped.only hops hop (by_change _ (at.sound j _ (λ x. x) h)).3;
   }
 

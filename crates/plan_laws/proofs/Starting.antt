@@ -124,9 +124,9 @@ module _ {made : ℕ} {objects : Objects} (chip : IsListedChip made objects) (ne
   pub old-named : HaveOwnNames old
   old-named = record {
     one = λ t u i j same. let x = old-seen t i in let y = old-seen u j in (old-laid.one x.0 y.0 t u x.1 y.1 same).1;
-    proper = λ p g i.
-        let s = (old-seen (thing.Route p g) i).1 in
-        subst HasPrefix (body-seen tag made objects chip.whole s.entry s.body (thing.Route p g) s.found s.thing).body_is (chip.prefixes.each s.entry s.body s.found);
+    proper = λ v p g i.
+        let s = (old-seen (thing.Route v p g) i).1 in
+        subst HasPrefix (body-seen tag made objects chip.whole s.entry s.body (thing.Route v p g) s.found s.thing).body_is (chip.prefixes.each s.entry s.body s.found);
   }
 
   abbrev pub hops_by_tag : List WHop → List WHop
@@ -177,9 +177,9 @@ module _ {made : ℕ} {objects : Objects} (chip : IsListedChip made objects) (ne
         let m = old-seen (thing.GroupMember t hop) i in
         let has = old-laid.stand m.0 (thing.GroupMember t hop) m.1 in
         group_only has.1.first t (group-there t has.1.first has.1.first_at) m.0 hop m.1;
-    there = λ p t i.
-        let r = old-seen (thing.Route p (goal.Group t)) i in
-        let has = old-laid.stand r.0 (thing.Route p (goal.Group t)) r.1 in
+    there = λ v p t i.
+        let r = old-seen (thing.Route v p (goal.Group t)) i in
+        let has = old-laid.stand r.0 (thing.Route v p (goal.Group t)) r.1 in
         seen-old has.1.first (thing.Group t) (group-there t has.1.first has.1.first_at);
   }
 

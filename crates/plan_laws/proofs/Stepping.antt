@@ -93,7 +93,7 @@ pub first-place : {I : Type 0} (at : ThingName → I → Type 0) (u : Thing) (a 
 first-place at (thing.Port p) a v h = inl tt
 first-place at (thing.VlanMember vlan lane tagging) (attr.Tagging x) v h = inr (refl, subst IsPortName (ap name_of h))
 first-place at (thing.Neighbor hop mac) (attr.Mac m) v h = inr (refl, subst IsPortName (ap name_of h))
-first-place at (thing.Route prefix goal) (attr.To x) v h = inr (refl, subst IsPortName (ap name_of h.4))
+first-place at (thing.Route z prefix goal) (attr.To x) v h = inr (refl, subst IsPortName (ap name_of h.4))
 first-place at _ _ v h = elim h [ ]
 
 -- so at most one is set

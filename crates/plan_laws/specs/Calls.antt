@@ -1,5 +1,5 @@
 -- The calls of a plan before they are made: an object that stands is named by its identifier, and one that the plan makes by that of the new view. Own.
-use Rattle.std.specs.Prelude.{◌≡◌, ℕ, ◌+◌, ◌≤◌, true, ◌++◌, List, [], ◌∷◌, map}
+use Rattle.std.specs.Prelude.{◌≡◌, ℕ, ◌+◌, ◌≤◌, true, ◌++◌, List, [], ◌∷◌, map, option_map}
 use Rattle.sai_types.specs.declared.ids.Rid.{Rid}
 use Rattle.sai_types.specs.declared.ids.Vid.{Vid}
 use Rattle.sai_types.specs.declared.body.Attr.{Attr}
@@ -43,9 +43,9 @@ pub record Resolves (start : Layout Rid) (view : Layout Vid) (ids : Vid → Rid)
 -- the entry of an old object, as a plan names it
 abbrev pub old_entry : Entry Rid → Entry PlanId
 old_entry (entry.Oid r) = entry.Oid (plan_id.Old r)
-old_entry (entry.Own ip) = entry.Own ip
+old_entry (entry.Own vr ip) = entry.Own (option_map plan_id.Old vr) ip
 old_entry (entry.Neigh r ip) = entry.Neigh (plan_id.Old r) ip
-old_entry (entry.Route p) = entry.Route p
+old_entry (entry.Route vr p) = entry.Route (option_map plan_id.Old vr) p
 
 -- sets of an old object, in the order of attributes from this place on and each at most once, by which its thing becomes another
 abbrev pub PlansSets : Layout PlanId → Entry PlanId → ℕ → List (Call PlanId) → Thing → Thing → Type 0

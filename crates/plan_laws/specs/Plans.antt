@@ -49,15 +49,15 @@ pub record IsViewPlan (rank : PlanChange → ℕ) (old new : List Thing) (plan :
 -- ---- the two orders
 
 abbrev pub make_place : ThingName → ℕ
-make_place (Route p) = 728 - p.len
+make_place (Route v p) = 728 - p.len
 make_place k = level (name_kind k)
 
 abbrev pub set_place : ThingName → ℕ
-set_place (Route p) = 800
+set_place (Route v p) = 800
 set_place k = 400 + level (name_kind k)
 
 abbrev pub remove_place : ThingName → ℕ
-remove_place (Route p) = 1000 + p.len
+remove_place (Route v p) = 1000 + p.len
 remove_place k = 1400 - level (name_kind k)
 
 -- a hitless plan makes all but routes, kinds rising, and sets all but routes; it makes routes, the longest prefix first, sets routes, and removes routes, the shortest first; and it removes the others, kinds falling

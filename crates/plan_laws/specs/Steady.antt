@@ -10,9 +10,9 @@ use Rattle.plan_laws.specs.Plans.{PlanChange, stands_after_all}
 
 -- the names by which packets go
 abbrev pub IsForwarding : ThingName → Type 0
-IsForwarding (name.Own ip) = Unit {0}
+IsForwarding (name.Own v ip) = Unit {0}
 IsForwarding (name.Neighbor hop) = Unit {0}
-IsForwarding (name.Route prefix) = Unit {0}
+IsForwarding (name.Route v prefix) = Unit {0}
 IsForwarding _ = ⊥
 
 -- a list of what stands after changes of the old things, as far as packets go by it

@@ -11,7 +11,7 @@ use Rattle.sai_types.specs.Names.{ThingName}
 use Rattle.chip_layout.specs.Bodies.{IsChange}
 use Rattle.row_layout.specs.Operations.{Change, Set, thing_of_port, same_thing, set_to}
 use Rattle.row_layout.proofs.Changing.{set_none}
-use Rattle.switch_machine.proofs.Equal.{thing-exact}
+use Rattle.sai_types.proofs.Equal.{thing-exact}
 use Rattle.port_orch.specs.Ports.{are_alike, first_attr, port_sets, port_thing, stepped}
 
 set-new : (t u : Thing) (rest : List Change) → (t ≡ u → ⊥) → set_to t u rest ≡ Set u ∷ rest

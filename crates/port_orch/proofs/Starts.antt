@@ -23,7 +23,7 @@ use Rattle.orch_flight.proofs.Begins.{names-plain, no_places, places-set, places
 use Rattle.port_orch.specs.Ports.{IsPortKey, port_thing}
 
 abbrev pub made : List ℕ
-made = 1 ∷ 0 ∷ 0 ∷ 0 ∷ 0 ∷ 0 ∷ 0 ∷ 0 ∷ 0 ∷ 0 ∷ 0 ∷ []
+made = 1 ∷ 0 ∷ 0 ∷ 0 ∷ 0 ∷ 0 ∷ 0 ∷ 0 ∷ 0 ∷ 0 ∷ 0 ∷ 0 ∷ []
 
 -- a port's row names nothing
 pub no-names : (names : Names) (k : Key) (r : Row) → IsPortKey k → first_unapplied names (names_of k r) ≡ None

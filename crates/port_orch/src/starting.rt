@@ -12,7 +12,7 @@ use swss_types::OutOfMemory;
 use table_schema::{Key, PortPlan, Row};
 
 /// A port that is made takes a place of its kind.
-const MADE: KindCounts = [1, 0, 0, 0, 0, 0, 0, 0, 0, 0, 0];
+const MADE: KindCounts = [1, 0, 0, 0, 0, 0, 0, 0, 0, 0, 0, 0];
 
 /// A port whose values are set takes none.
 const SET: KindCounts = [0; KINDS];

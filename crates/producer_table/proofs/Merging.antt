@@ -3,16 +3,13 @@ use Rattle.std.proofs.Common.{◌≡◌, List, [], ◌∷◌, ℕ, refl, sym, ap
 use Rattle.std.specs.BTreeMap.{insert_entry}
 use Rattle.std.specs.Cmp.{IsTotalOrder}
 use Rattle.std.specs.List.{AllByRecursion}
-use Rattle.std.specs.Ordering.{ordering_reverse}
 use Rattle.std.specs.declared.cmp.Ordering.{Ordering}
 use Rattle.std.specs.declared.cmp.Ordering.TheVariants.{Less, Equal, Greater}
 use Rattle.std.proofs.lemmas.Cmp.{nat_list_cmp_total, tied_itself}
 use Rattle.std.proofs.lemmas.Map.Lookups.{exact_bytes}
 use Rattle.table_schema.specs.Fields.{Pairs, HasRisingNames, by_bytes, merged, with_pair}
 use Rattle.table_schema.proofs.Places.{HasRisingKeys-insert_entry, above_more, put_step}
-
-less_turned_greater : {K : Type 0} (cmp : K → K → Ordering) (o : IsTotalOrder cmp) (a b : K) → cmp a b ≡ Less → cmp b a ≡ Greater
-less_turned_greater cmp o a b less = o.antisymm b a ∙ ap ordering_reverse less
+use Rattle.table_schema.proofs.Puts.{put-put}
 
 module _ {K X : Type 0} (cmp : K → K → Ordering) (o : IsTotalOrder cmp) where
   -- the later of two values under one key stays
@@ -24,32 +21,6 @@ module _ {K X : Type 0} (cmp : K → K → Ordering) (o : IsTotalOrder cmp) wher
         | Less ↦ λ is. ap (λ l. insert_entry cmp l k w) (put_step cmp e es k v Less is) ∙ put_step cmp (k, v) (e ∷ es) k w Equal (tied_itself o k) ∙ sym (put_step cmp e es k w Less is)
         | Equal ↦ λ is. ap (λ l. insert_entry cmp l k w) (put_step cmp e es k v Equal is) ∙ put_step cmp (e.0, v) es k w Equal is ∙ sym (put_step cmp e es k w Equal is)
         | Greater ↦ λ is. ap (λ l. insert_entry cmp l k w) (put_step cmp e es k v Greater is) ∙ put_step cmp e (insert_entry cmp es k v) k w Greater is ∙ ap (λ l. e ∷ l) (put-twice es k v w) ∙ sym (put_step cmp e es k w Greater is)
-      ] in
-      by (cmp k e.0) refl
-
-  -- where a lesser and a greater key are put, the order of the two puts is nothing
-  pub put-put : (es : List (K × X)) (k j : K) (v w : X) → cmp k j ≡ Less → insert_entry cmp (insert_entry cmp es k v) j w ≡ insert_entry cmp (insert_entry cmp es j w) k v
-  put-put [] k j v w less = put_step cmp (k, v) [] j w Greater (less_turned_greater cmp o k j less) ∙ sym (put_step cmp (j, w) [] k v Less less)
-  put-put (e ∷ es) k j v w less =
-      let all = e ∷ es in
-      let first : cmp k e.0 ≡ Less → insert_entry cmp (insert_entry cmp all k v) j w ≡ (k, v) ∷ insert_entry cmp all j w =
-      λ is. ap (λ l. insert_entry cmp l j w) (put_step cmp e es k v Less is) ∙ put_step cmp (k, v) all j w Greater (less_turned_greater cmp o k j less) in
-      let beyond : cmp j e.0 ≡ Greater → insert_entry cmp all j w ≡ e ∷ insert_entry cmp es j w = put_step cmp e es j w Greater in
-      let above : (r : Ordering) → cmp j e.0 ≡ r → cmp k e.0 ≡ Less → (k, v) ∷ insert_entry cmp all j w ≡ insert_entry cmp (insert_entry cmp all j w) k v =
-      λ r. elim r as (λ r. cmp j e.0 ≡ r → cmp k e.0 ≡ Less → (k, v) ∷ insert_entry cmp all j w ≡ insert_entry cmp (insert_entry cmp all j w) k v) [
-        | Less ↦ λ is below. ap (λ l. (k, v) ∷ l) (put_step cmp e es j w Less is) ∙ sym (put_step cmp (j, w) all k v Less less) ∙ ap (λ l. insert_entry cmp l k v) (sym (put_step cmp e es j w Less is))
-        | Equal ↦ λ is below. ap (λ l. (k, v) ∷ l) (put_step cmp e es j w Equal is) ∙ sym (put_step cmp (e.0, w) es k v Less below) ∙ ap (λ l. insert_entry cmp l k v) (sym (put_step cmp e es j w Equal is))
-        | Greater ↦ λ is below. ap (λ l. (k, v) ∷ l) (beyond is) ∙ sym (put_step cmp e (insert_entry cmp es j w) k v Less below) ∙ ap (λ l. insert_entry cmp l k v) (sym (beyond is))
-      ] in
-      let by : (r : Ordering) → cmp k e.0 ≡ r → insert_entry cmp (insert_entry cmp all k v) j w ≡ insert_entry cmp (insert_entry cmp all j w) k v =
-      λ r. elim r as (λ r. cmp k e.0 ≡ r → insert_entry cmp (insert_entry cmp all k v) j w ≡ insert_entry cmp (insert_entry cmp all j w) k v) [
-        | Less ↦ λ is. first is ∙ above (cmp j e.0) refl is
-        | Equal ↦ λ is.
-            let far : cmp j e.0 ≡ Greater = less_turned_greater cmp o e.0 j (sym (o.congr k e.0 j is) ∙ less) in
-            ap (λ l. insert_entry cmp l j w) (put_step cmp e es k v Equal is) ∙ put_step cmp (e.0, v) es j w Greater far ∙ sym (put_step cmp e (insert_entry cmp es j w) k v Equal is) ∙ ap (λ l. insert_entry cmp l k v) (sym (beyond far))
-        | Greater ↦ λ is.
-            let far : cmp j e.0 ≡ Greater = less_turned_greater cmp o e.0 j (o.trans e.0 k j (o.antisymm e.0 k ∙ ap ordering_reverse is) less) in
-            ap (λ l. insert_entry cmp l j w) (put_step cmp e es k v Greater is) ∙ put_step cmp e (insert_entry cmp es k v) j w Greater far ∙ ap (λ l. e ∷ l) (put-put es k j v w less) ∙ sym (put_step cmp e (insert_entry cmp es j w) k v Greater is) ∙ ap (λ l. insert_entry cmp l k v) (sym (beyond far))
       ] in
       by (cmp k e.0) refl
 

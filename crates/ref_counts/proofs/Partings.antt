@@ -65,13 +65,13 @@ IsBelow n m = registered_name_cmp n m ≡ Greater
 pub row_below : (k : Key) (m : Name) → table_place k < table_place_of_name m → IsAbove (name.Row k) m
 row_below k (name.Row q) lt = ap (λ o. ordering_then o (part_cmp k q)) (sym (nat_cmp_is (table_place k) (table_place q) Less lt))
 row_below k (name.BridgePort p) lt = refl
-row_below k (name.Own ip) lt = refl
+row_below k (name.Own v ip) lt = refl
 row_below k (name.Group hops) lt = refl
 
 group_above : (n : Name) (hops : List WHop) → table_place_of_name n < place_of_groups → IsAbove n (name.Group hops)
 group_above (name.Row k) hops lt = refl
 group_above (name.BridgePort p) hops lt = refl
-group_above (name.Own ip) hops lt = refl
+group_above (name.Own v ip) hops lt = refl
 group_above (name.Group other) hops lt = absurd (omega arith)
 
 pub turned : (n m : Name) → IsAbove n m → IsBelow m n

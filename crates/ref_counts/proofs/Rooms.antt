@@ -10,36 +10,38 @@ use Rattle.sai_types.specs.Kinds.{all_kinds}
 use Rattle.sai_types.specs.Objects.{level}
 use Rattle.sai_types.specs.Refusal.{capacity_of}
 use Rattle.sai_types.proofs.Levels.{level_within}
-use Rattle.ref_counts.specs.Room.{IsWithin, RoomState, first_lacking, lacking, lacks, number_of_kind, places_by, places_in_all}
+use Rattle.ref_counts.specs.Room.{IsWithin, RoomState, first_lacking, kinds_in_all, lacking, lacks, number_of_kind, places_by, places_in_all}
 
 -- what holds of each kind of the list holds of each kind
 each_kind : (P : Kind → Type 0) → AllByRecursion P all_kinds → (k : Kind) → P k
 each_kind P h kind.Port = h.0
 each_kind P h kind.Vlan = h.1.0
-each_kind P h kind.BridgePort = h.1.1.0
-each_kind P h kind.VlanMember = h.1.1.1.0
-each_kind P h kind.Rif = h.1.1.1.1.0
-each_kind P h kind.OwnAddress = h.1.1.1.1.1.0
-each_kind P h kind.Neighbor = h.1.1.1.1.1.1.0
-each_kind P h kind.NextHop = h.1.1.1.1.1.1.1.0
-each_kind P h kind.Group = h.1.1.1.1.1.1.1.1.0
-each_kind P h kind.GroupMember = h.1.1.1.1.1.1.1.1.1.0
-each_kind P h kind.Route = h.1.1.1.1.1.1.1.1.1.1.0
+each_kind P h kind.VirtualRouter = h.1.1.0
+each_kind P h kind.BridgePort = h.1.1.1.0
+each_kind P h kind.VlanMember = h.1.1.1.1.0
+each_kind P h kind.Rif = h.1.1.1.1.1.0
+each_kind P h kind.OwnAddress = h.1.1.1.1.1.1.0
+each_kind P h kind.Neighbor = h.1.1.1.1.1.1.1.0
+each_kind P h kind.NextHop = h.1.1.1.1.1.1.1.1.0
+each_kind P h kind.Group = h.1.1.1.1.1.1.1.1.1.0
+each_kind P h kind.GroupMember = h.1.1.1.1.1.1.1.1.1.1.0
+each_kind P h kind.Route = h.1.1.1.1.1.1.1.1.1.1.1.0
 
 -- what holds of the place of each kind holds of each place
-pub each_place : (P : ℕ → Type 0) → ((k : Kind) → P (level k)) → (j : ℕ) → j < 11 → P j
+pub each_place : (P : ℕ → Type 0) → ((k : Kind) → P (level k)) → (j : ℕ) → j < kinds_in_all → P j
 each_place P h zero lt = h kind.Port
 each_place P h (suc zero) lt = h kind.Vlan
-each_place P h (suc (suc zero)) lt = h kind.BridgePort
-each_place P h (suc (suc (suc zero))) lt = h kind.VlanMember
-each_place P h (suc (suc (suc (suc zero)))) lt = h kind.Rif
-each_place P h (suc (suc (suc (suc (suc zero))))) lt = h kind.OwnAddress
-each_place P h (suc (suc (suc (suc (suc (suc zero)))))) lt = h kind.Neighbor
-each_place P h (suc (suc (suc (suc (suc (suc (suc zero))))))) lt = h kind.NextHop
-each_place P h (suc (suc (suc (suc (suc (suc (suc (suc zero)))))))) lt = h kind.Group
-each_place P h (suc (suc (suc (suc (suc (suc (suc (suc (suc zero))))))))) lt = h kind.GroupMember
-each_place P h (suc (suc (suc (suc (suc (suc (suc (suc (suc (suc zero)))))))))) lt = h kind.Route
-each_place P h (suc (suc (suc (suc (suc (suc (suc (suc (suc (suc (suc j))))))))))) lt = absurd (omega arith)
+each_place P h (suc (suc zero)) lt = h kind.VirtualRouter
+each_place P h (suc (suc (suc zero))) lt = h kind.BridgePort
+each_place P h (suc (suc (suc (suc zero)))) lt = h kind.VlanMember
+each_place P h (suc (suc (suc (suc (suc zero))))) lt = h kind.Rif
+each_place P h (suc (suc (suc (suc (suc (suc zero)))))) lt = h kind.OwnAddress
+each_place P h (suc (suc (suc (suc (suc (suc (suc zero))))))) lt = h kind.Neighbor
+each_place P h (suc (suc (suc (suc (suc (suc (suc (suc zero)))))))) lt = h kind.NextHop
+each_place P h (suc (suc (suc (suc (suc (suc (suc (suc (suc zero))))))))) lt = h kind.Group
+each_place P h (suc (suc (suc (suc (suc (suc (suc (suc (suc (suc zero)))))))))) lt = h kind.GroupMember
+each_place P h (suc (suc (suc (suc (suc (suc (suc (suc (suc (suc (suc zero))))))))))) lt = h kind.Route
+each_place P h (suc (suc (suc (suc (suc (suc (suc (suc (suc (suc (suc (suc j)))))))))))) lt = absurd (omega arith)
 
 none_lacks : (room : RoomState) (need used : List ℕ) (ks : List Kind) → first_lacking room need used ks ≡ None → AllByRecursion (λ k. lacks room need used k ≡ false) ks
 none_lacks room need used [] h = tt
@@ -91,7 +93,7 @@ module _ (old new : List ℕ) (w : ℕ) (k : Kind) (n : ℕ) (others : (other : 
   all_less none = let a = less_each none 0 in let b = less_each none 1 in let c = less_each none 2 in let d = less_each none 3 in omega arith
 
 -- the places of another worker stand elsewhere
-pub elsewhere : (other w : ℕ) (k : Kind) → ¬ (other ≡ w) → 11 * other + level k < 11 * w ⊎ 11 * w + 11 ≤ 11 * other + level k
+pub elsewhere : (other w : ℕ) (k : Kind) → ¬ (other ≡ w) → kinds_in_all * other + level k < kinds_in_all * w ⊎ kinds_in_all * w + kinds_in_all ≤ kinds_in_all * other + level k
 elsewhere other w k ne =
     let lt = level_within k in
     elim (cases_lt other w) [ inl less ↦ inl (omega arith) | inr from ↦ inr (omega arith) ]

@@ -1,5 +1,5 @@
 -- The room on a chip, and the places that are reserved of it. Own.
-use Rattle.std.specs.Prelude.{◌≡◌, ℕ, ◌+◌, ◌*◌, ◌≤◌, nat_lt, Bool, ◌&&◌, List, [], ◌∷◌, replicate, slice_index, Option, Some, None, if◌then◌else◌}
+use Rattle.std.specs.Prelude.{◌≡◌, ℕ, ◌+◌, ◌*◌, ◌≤◌, nat_lt, Bool, ◌&&◌, List, [], ◌∷◌, length, replicate, slice_index, Option, Some, None, if◌then◌else◌}
 use Rattle.sai_types.specs.declared.kind.Kind.{Kind}
 use Rattle.sai_types.specs.Kinds.{all_kinds}
 use Rattle.sai_types.specs.Objects.{level}
@@ -10,9 +10,13 @@ pub record RoomState : Type 0 where
   pub capacities : List ℕ
   pub reserved : List ℕ
 
+-- how many kinds there are
+abbrev pub kinds_in_all : ℕ
+kinds_in_all = length all_kinds
+
 -- room of which nothing is reserved
 abbrev pub all_free : List ℕ → RoomState
-all_free capacities = record { capacities = capacities; reserved = replicate 44 0 }
+all_free capacities = record { capacities = capacities; reserved = replicate (4 * kinds_in_all) 0 }
 
 -- how many there are of a kind
 abbrev pub number_of_kind : List ℕ → Kind → ℕ
@@ -20,7 +24,7 @@ number_of_kind numbers k = slice_index numbers (level k)
 
 -- the places of a kind that a worker has reserved
 abbrev pub places_by : List ℕ → ℕ → Kind → ℕ
-places_by reserved worker k = slice_index reserved (11 * worker + level k)
+places_by reserved worker k = slice_index reserved (kinds_in_all * worker + level k)
 
 -- the places of a kind that all workers have reserved
 abbrev pub places_in_all : List ℕ → Kind → ℕ

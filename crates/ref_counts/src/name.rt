@@ -2,7 +2,7 @@
 ghost use Rattle.std.specs.Prelude.{◌≡◌, IfOk};
 
 use sai_types::Hops;
-use swss_types::{Ip, OutOfMemory};
+use swss_types::{Ip, OutOfMemory, Vrf};
 use table_schema::Key;
 
 /// What belongs to a row, or is shared by rows. Names are ordered by variant, and then by their parts.
@@ -12,8 +12,8 @@ pub enum Name {
     Row(Key),
     /// A port as a member of the bridge, by its first lane.
     BridgePort(u16),
-    /// An address of the switch itself.
-    Own(Ip),
+    /// An address of the switch itself, in a virtual router.
+    Own(Vrf, Ip),
     /// A group of next hops, by its hops.
     Group(Hops),
 }
@@ -43,7 +43,7 @@ impl Name {
         Ok(match self {
             Name::Row(key) => Name::Row(key.copy()?),
             Name::BridgePort(lane) => Name::BridgePort(*lane),
-            Name::Own(ip) => Name::Own(*ip),
+            Name::Own(vrf, ip) => Name::Own(*vrf, *ip),
             Name::Group(hops) => Name::Group(hops.copy()?),
         })
     }

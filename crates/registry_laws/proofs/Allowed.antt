@@ -67,7 +67,7 @@ all_but w (p ∷ ps) h = by (p.worker == w) refl (all_but w ps (λ q i. h q (inr
 of_shared : (o : Owner) → IsShared o → IsOfShared (name_for o)
 of_shared (owner.OfRow k) h = elim h [ ]
 of_shared (owner.Bridge lane) h = tt
-of_shared (owner.Own ip) h = tt
+of_shared (owner.Own v ip) h = tt
 of_shared (owner.Group hops) h = tt
 
 module _ (plan : Ports) (is : IsPlan plan) (capacities : List ℕ) (s : SwitchState) (kept : IsSafe plan 4 capacities s) (names : Names) (room : RoomState) (flown : ℕ → Option Flown) (board : KnowsBoard plan capacities names room flown s.machine) (w : ℕ) (free : flown w ≡ None) (k : Key) (rests : IsResting s.machine.board k) where
@@ -83,7 +83,7 @@ module _ (plan : Ports) (is : IsPlan plan) (capacities : List ℕ) (s : SwitchSt
       let x = known p h in
       not_some x.0 (sym (ap m.board.flights e ∙ idle) ∙ x.1)
   pins (name.BridgePort lane) r at p h e = subst (λ x. (v : Pin) → IsIn v (pins_at x) → ⊥) at (board.registers.names_known.shared (owner.Bridge lane) tt).pins p h
-  pins (name.Own ip) r at p h e = subst (λ x. (v : Pin) → IsIn v (pins_at x) → ⊥) at (board.registers.names_known.shared (owner.Own ip) tt).pins p h
+  pins (name.Own v ip) r at p h e = subst (λ x. (v : Pin) → IsIn v (pins_at x) → ⊥) at (board.registers.names_known.shared (owner.Own v ip) tt).pins p h
   pins (name.Group hops) r at p h e = subst (λ x. (v : Pin) → IsIn v (pins_at x) → ⊥) at (board.registers.names_known.shared (owner.Group hops) tt).pins p h
 
   unpinned : HasNoPins names w

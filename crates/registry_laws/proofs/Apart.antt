@@ -14,11 +14,11 @@ pub built_apart : (o : Option Owner) (own : List Change) → built_first o own �
 built_apart None own = refl
 built_apart (Some (owner.OfRow k)) own = refl
 built_apart (Some (owner.Bridge lane)) own = refl
-built_apart (Some (owner.Own ip)) own = refl
+built_apart (Some (owner.Own v ip)) own = refl
 built_apart (Some (owner.Group hops)) own = sym (make_append (shared_things (owner.Group hops)) [] own)
 
 pub taken_apart : (o : Owner) → take_all (shared_going o) [] ≡ group_taken o ++ taken_here (Some o)
 taken_apart (owner.OfRow k) = refl
 taken_apart (owner.Bridge lane) = refl
-taken_apart (owner.Own ip) = refl
+taken_apart (owner.Own v ip) = refl
 taken_apart (owner.Group hops) = sym (append-nil (take_all (shared_going (owner.Group hops)) []))

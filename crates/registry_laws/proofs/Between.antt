@@ -13,7 +13,7 @@ use Rattle.switch_machine.specs.Events.{Due, Ended, Follows, Left, Retires, empt
 use Rattle.switch_machine.specs.Flights.{MachineFlight, IsUser, Machine}
 use Rattle.switch_machine.specs.Steps.{left, moved, parted, started}
 use Rattle.switch_machine.proofs.Splits.{IsPut, IsSplit, New, Old, nat_split, put_at, put_by, put_off}
-use Rattle.ref_counts.specs.Room.{all_free}
+use Rattle.ref_counts.specs.Room.{all_free, kinds_in_all}
 use Rattle.registry_laws.specs.Registers.{HaveDue, OthersHaveDue, Registers}
 use Rattle.registry_laws.proofs.Listing.{none_rising, not_some, some_of_due}
 use Rattle.registry_laws.proofs.Parting as parting
@@ -45,7 +45,7 @@ registers_nothing plan workers capacities few = record {
       rising = none_rising;
     };
   };
-  room_known = record { capacities_are = refl; places = λ w kind less. nought 44 (11 * w + level kind) };
+  room_known = record { capacities_are = refl; places = λ w kind less. nought (4 * kinds_in_all) (kinds_in_all * w + level kind) };
   few = few;
   below = λ w f at. not_some f at;
   retiring = λ w f o c at. not_some f at;

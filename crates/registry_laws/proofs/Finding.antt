@@ -1,5 +1,5 @@
 -- what is known of an owner's name after a change of names
-use Rattle.std.proofs.Common.{◌≡◌, ◌⊎◌, ◌∷◌, ◌∙◌, inl, inr, ℕ, Bool, true, false, cond, List, [], Option, None, Some, option_map, refl, sym, ap, subst}
+use Rattle.std.proofs.Common.{◌≡◌, ◌⊎◌, ◌∷◌, ◌∙◌, inl, inr, ℕ, Bool, true, false, cond, List, [], Option, None, Some, option_map, refl, sym, ap, ap₂, subst}
 use Rattle.std.specs.BTreeMap.{insert_entry, is_at}
 use Rattle.std.specs.Ordering.{is_eq}
 use Rattle.std.specs.declared.cmp.Ordering.{Ordering}
@@ -34,6 +34,7 @@ use Rattle.orch_flight.specs.Starting.{ids_for, ids_for_row, used_by, with_build
 use Rattle.table_schema.specs.Names.{names_of}
 use Rattle.table_schema.specs.declared.row.Row.{Row}
 use Rattle.swss_types.proofs.AddressOrders.{ip_exact}
+use Rattle.swss_types.proofs.Routers.{vrf_exact}
 use Rattle.registry_laws.specs.Known.{pins_at}
 use Rattle.registry_laws.proofs.Listing.{never_none, not_some}
 
@@ -42,7 +43,7 @@ use Rattle.registry_laws.proofs.Listing.{never_none, not_some}
 names_exact : (o p : Owner) → registered_name_cmp (name_for o) (name_for p) ≡ Equal → o ≡ p
 names_exact (owner.OfRow k) (owner.OfRow q) h = ap owner.OfRow (key_exact k q h)
 names_exact (owner.Bridge a) (owner.Bridge b) h = ap owner.Bridge (exact_unsigned a b h)
-names_exact (owner.Own a) (owner.Own b) h = ap owner.Own (ip_exact a b h)
+names_exact (owner.Own v a) (owner.Own w b) h = ap₂ owner.Own (vrf_exact v w (then_first _ _ h)) (ip_exact a b (then_last _ _ h))
 names_exact (owner.Group a) (owner.Group b) h = ap owner.Group (hops_exact a b h)
 names_exact _ _ h = cc
 

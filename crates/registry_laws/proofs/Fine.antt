@@ -165,28 +165,30 @@ live_fine o ids names are = changed_fine o (made_live ids) (is_live o ids) names
 made_fine : (names : Names) (k : Key) (t : Thing) (made : Option Vid) → AreFine names → AreFine (names_after_made names k t made)
 made_fine names k (thing.Port p) made are = live_fine (owner.OfRow k) (to_list made) names are
 made_fine names k (thing.Vlan v) made are = live_fine (owner.OfRow k) (to_list made) names are
+made_fine names k (thing.VirtualRouter label) made are = live_fine (owner.OfRow k) (to_list made) names are
 made_fine names k (thing.BridgePort lane) made are = live_fine (owner.Bridge lane) (to_list made) names are
 made_fine names k (thing.VlanMember v lane x) made are = live_fine (owner.OfRow k) (to_list made) names are
-made_fine names k (thing.Rif b) made are = live_fine (owner.OfRow k) (to_list made) names are
-made_fine names k (thing.Own ip) made are = live_fine (owner.Own ip) [] names are
+made_fine names k (thing.Rif b v) made are = live_fine (owner.OfRow k) (to_list made) names are
+made_fine names k (thing.Own v ip) made are = live_fine (owner.Own v ip) [] names are
 made_fine names k (thing.Neighbor hop mac) made are = are
 made_fine names k (thing.NextHop hop) made are = live_fine (owner.OfRow k) (to_list made) names are
 made_fine names k (thing.Group hops) made are = are
 made_fine names k (thing.GroupMember hops hop) made are = are
-made_fine names k (thing.Route prefix goal) made are = are
+made_fine names k (thing.Route v prefix goal) made are = are
 
 taken_fine : (names : Names) (n : thing_name.ThingName) → AreFine names → AreFine (taken_names names n)
 taken_fine names (thing_name.BridgePort lane) are = gone_fine (owner.Bridge lane) names are
-taken_fine names (thing_name.Own ip) are = gone_fine (owner.Own ip) names are
+taken_fine names (thing_name.Own v ip) are = gone_fine (owner.Own v ip) names are
 taken_fine names (thing_name.Port lane) are = are
 taken_fine names (thing_name.Vlan v) are = are
+taken_fine names (thing_name.VirtualRouter label) are = are
 taken_fine names (thing_name.VlanMember v lane) are = are
 taken_fine names (thing_name.Rif b) are = are
 taken_fine names (thing_name.Neighbor hop) are = are
 taken_fine names (thing_name.NextHop hop) are = are
 taken_fine names (thing_name.Group hops) are = are
 taken_fine names (thing_name.GroupMember hops hop) are = are
-taken_fine names (thing_name.Route prefix) are = are
+taken_fine names (thing_name.Route v prefix) are = are
 
 pub after_fine : (names : Names) (k : Key) (c : Change) (made : Option Vid) → AreFine names → AreFine (names_after names k c made)
 after_fine names k (Make t) made are = made_fine names k t made are

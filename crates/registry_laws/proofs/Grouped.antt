@@ -58,7 +58,7 @@ pub group_is_in : (os : List Owner) (hops : List WHop) → group_in os ≡ Some 
 group_is_in [] hops h = not_some hops h
 group_is_in (owner.OfRow k ∷ os) hops h = inr (group_is_in os hops h)
 group_is_in (owner.Bridge lane ∷ os) hops h = inr (group_is_in os hops h)
-group_is_in (owner.Own ip ∷ os) hops h = inr (group_is_in os hops h)
+group_is_in (owner.Own v ip ∷ os) hops h = inr (group_is_in os hops h)
 group_is_in (owner.Group other ∷ os) hops h = inl (ap owner.Group (sym (same_Some other hops h)))
 
 pub built_use : (plan : Ports) (names : Names) (f : Operation) (hops : List WHop) → group_to_build plan names f ≡ Some hops → IsIn (owner.Group hops) (uses_of plan f.key f.new)

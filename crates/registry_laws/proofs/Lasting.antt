@@ -1,5 +1,6 @@
 -- the thing of a row that makes its name live is the last that is made
 use Rattle.std.proofs.Common.{◌≡◌, ◌∷◌, ◌++◌, Bool, true, false, List, [], Option, None, Some, refl, subst, if◌then◌else◌}
+use Rattle.swss_types.specs.declared.vrf.Vrf.TheVariants as vrf
 use Rattle.table_schema.specs.Plan.{Ports}
 use Rattle.table_schema.specs.declared.key.Key.{Key}
 use Rattle.table_schema.specs.declared.key.Key.TheVariants as key
@@ -60,13 +61,13 @@ module _ (new : Option Row) where
     things_last plan (key.Port port) (row.Port a) = one_last (lane_of plan port) (λ lane. thing.Port (record { lanes = a.lanes; speed = a.speed; mtu = a.mtu; up = a.up }))
     things_last plan (key.Vlan vlan) row.Vlan = (λ _. (refl, r, is), tt)
     things_last plan (key.Member vlan port) (row.Member tagging) = one_last (lane_of plan port) (λ lane. thing.VlanMember vlan lane tagging)
-    things_last plan (key.Intf n) row.Intf = one_last (base_of plan n) thing.Rif
+    things_last plan (key.Intf n) row.Intf = one_last (base_of plan n) (λ b. thing.Rif b vrf.Default)
     things_last plan (key.Neigh n ip) (row.Neigh mac) = by (base_of plan n)
       where
         by : (x : Option Base) → AreLastMade (make_all (from x (λ b. thing.Neighbor (record { on = b; ip = ip }) mac ∷ thing.NextHop (record { on = b; ip = ip }) ∷ [])) [])
         by None = tt
         by (Some b) = (λ h. elim h [ ], (λ _. (refl, r, is), tt))
-    things_last plan (key.Route prefix) (row.Route a) = one_last (goal_of plan a) (thing.Route prefix)
+    things_last plan (key.Route prefix) (row.Route a) = one_last (goal_of plan a) (thing.Route vrf.Default prefix)
     things_last plan _ _ = tt
 
   own_last : (plan : Ports) (k : Key) (old x : Option Row) → new ≡ x → AreLastMade (own_changes plan k old x)
@@ -83,7 +84,7 @@ module _ (new : Option Row) where
   built_last None own h = h
   built_last (Some (owner.OfRow k)) own h = h
   built_last (Some (owner.Bridge lane)) own h = (λ x. elim x [ ], h)
-  built_last (Some (owner.Own ip)) own h = (λ x. elim x [ ], h)
+  built_last (Some (owner.Own v ip)) own h = (λ x. elim x [ ], h)
   built_last (Some (owner.Group hops)) own h = (λ x. elim x [ ], members_last hops hops own h)
 
   pub lasting : (plan : Ports) (k : Key) (old : Option Row) (o : Option Owner) (before : List Change) (c : Change) (cs : List Change) → built_first o (own_changes plan k old new) ≡ before ++ c ∷ cs → MakesRowLive c → (cs ≡ []) × (r : Row) × (new ≡ Some r)

@@ -1,5 +1,6 @@
 -- what a worker has under way when an operation has begun
 use Rattle.std.proofs.Common.{◌≡◌, ◌∷◌, ◌++◌, ◌∙◌, inl, inr, ℕ, Bool, true, false, if◌then◌else◌, List, [], Option, None, Some, option_map, refl, sym, ap, subst}
+use Rattle.swss_types.specs.declared.vrf.Vrf.TheVariants as vrf
 use Rattle.table_schema.specs.Plan.{IsPlan, Ports}
 use Rattle.table_schema.specs.declared.key.Key.{Key}
 use Rattle.table_schema.specs.declared.key.Key.TheVariants as key
@@ -26,7 +27,7 @@ use Rattle.switch_machine.specs.Flights.{Fits, MachineFlight, HasChangeOf, Machi
 use Rattle.switch_machine.specs.Operations.{MayBegin}
 use Rattle.switch_machine.specs.Steps.{started}
 use Rattle.switch_machine.proofs.Beginning.{sound-begun}
-use Rattle.switch_machine.proofs.Equal.{thing-exact}
+use Rattle.sai_types.proofs.Equal.{thing-exact}
 use Rattle.switch_machine.proofs.Sequence.{IsShort, uses_short}
 use Rattle.switch_machine.proofs.Splits.{own_row_in, put_at}
 use Rattle.switch_machine.proofs.Tabled.{address_use, tabled}
@@ -86,12 +87,12 @@ set_some t u apart = by (same_thing t u) refl
 module _ (plan : Ports) (hops : List WHop) where
   -- the route's thing that points at the group, in the place of another
   route_some : (prefix : Prefix) (rows : Option Goal) → rows ≡ Some (goal.Group hops) → (old : Option Row) → ((a : Row) → old ≡ Some a → Fits plan (key.Route prefix) a) → (IsIn (owner.Group hops) (uses_of plan (key.Route prefix) old) → ⊥) → (r : RouteRow) → goal_of plan r ≡ rows → own_changes plan (key.Route prefix) old (Some (row.Route r)) ≡ [] → ⊥
-  route_some prefix rows is None fits unused r e h = some_of_due (Make (thing.Route prefix (goal.Group hops))) [] (sym (ap (λ z. make_all (from z (λ g. thing.Route prefix g ∷ [])) []) (e ∙ is)) ∙ h)
+  route_some prefix rows is None fits unused r e h = some_of_due (Make (thing.Route vrf.Default prefix (goal.Group hops))) [] (sym (ap (λ z. make_all (from z (λ g. thing.Route vrf.Default prefix g ∷ [])) []) (e ∙ is)) ∙ h)
   route_some prefix rows is (Some (row.Route a)) fits unused r e h =
       let was = (fits (row.Route a) refl).1 in
-      set_some (thing.Route prefix was.0) (thing.Route prefix (goal.Group hops))
+      set_some (thing.Route vrf.Default prefix was.0) (thing.Route vrf.Default prefix (goal.Group hops))
       (λ same. let one : was.0 ≡ goal.Group hops = cc in unused (route_use plan a hops (was.1 ∙ ap Some one)))
-      (sym (ap (λ z. set_all (from z (λ g. thing.Route prefix g ∷ [])) (from (goal_of plan r) (λ g. thing.Route prefix g ∷ []))) was.1 ∙ ap (λ z. set_all (thing.Route prefix was.0 ∷ []) (from z (λ g. thing.Route prefix g ∷ []))) (e ∙ is)) ∙ h)
+      (sym (ap (λ z. set_all (from z (λ g. thing.Route vrf.Default prefix g ∷ [])) (from (goal_of plan r) (λ g. thing.Route vrf.Default prefix g ∷ []))) was.1 ∙ ap (λ z. set_all (thing.Route vrf.Default prefix was.0 ∷ []) (from z (λ g. thing.Route vrf.Default prefix g ∷ []))) (e ∙ is)) ∙ h)
   route_some prefix rows is (Some a) fits unused r e h = elim (fits a refl) [ ]
 
   own_some : (k : Key) (r : Row) (old : Option Row) → IsIn (owner.Group hops) (uses plan k r) → ((a : Row) → old ≡ Some a → Fits plan k a) → (IsIn (owner.Group hops) (uses_of plan k old) → ⊥) → own_changes plan k old (Some r) ≡ [] → ⊥
@@ -195,7 +196,7 @@ module _ (plan : Ports) (is : IsPlan plan) (capacities : List ℕ) (m : Machine)
   group_is None e = ap (λ z. whole_group z None) (builds_none (ap group_built e))
   group_is (Some (owner.OfRow q)) e = ap (λ z. whole_group z None) (builds_none (ap group_built e))
   group_is (Some (owner.Bridge lane)) e = ap (λ z. whole_group z None) (builds_none (ap group_built e))
-  group_is (Some (owner.Own ip)) e = ap (λ z. whole_group z None) (builds_none (ap group_built e))
+  group_is (Some (owner.Own v ip)) e = ap (λ z. whole_group z None) (builds_none (ap group_built e))
   group_is (Some (owner.Group hops)) e = ap (λ z. whole_group z None) (builds_group hops e)
 
   -- and it has changes of its own after it
@@ -218,7 +219,7 @@ module _ (plan : Ports) (is : IsPlan plan) (capacities : List ℕ) (m : Machine)
       by None e = nothing (ap group_built e)
       by (Some (owner.OfRow q)) e = nothing (ap group_built e)
       by (Some (owner.Bridge lane)) e = nothing (ap group_built e)
-      by (Some (owner.Own ip)) e = nothing (ap group_built e)
+      by (Some (owner.Own v ip)) e = nothing (ap group_built e)
       by (Some (owner.Group group)) e = by_row group e new refl
 
   -- ---- and its own changes

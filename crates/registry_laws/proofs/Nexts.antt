@@ -1,6 +1,7 @@
 -- what the change that is due next is about
 use Rattle.std.proofs.Common.{◌≡◌, ◌⊎◌, ◌∷◌, ◌++◌, ◌∙◌, inl, inr, ℕ, List, [], Option, None, Some, refl, sym, ap, subst}
 use Rattle.std.proofs.lemmas.Option.{same_Some}
+use Rattle.swss_types.specs.declared.vrf.Vrf.TheVariants as vrf
 use Rattle.table_schema.specs.Plan.{IsPlan, Ports}
 use Rattle.table_schema.specs.declared.key.Key.{Key}
 use Rattle.table_schema.specs.declared.key.Key.TheVariants as key
@@ -82,10 +83,10 @@ same_names plan (key.Neigh i ip) (row.Neigh x) n t fr fn h = elim fn [ ]
 same_names plan (key.Neigh i ip) r n t fr fn h = elim fr [ ]
 same_names plan (key.Route prefix) (row.Route r) (row.Route n) t fr fn h = by (goal_of plan r) (goal_of plan n) fn.1.1 h
   where
-    by : (o p : Option Goal) → p ≡ Some fn.1.0 → IsIn t (from o (λ g. thing.Route prefix g ∷ [])) → HasNamed (from p (λ g. thing.Route prefix g ∷ [])) t
+    by : (o p : Option Goal) → p ≡ Some fn.1.0 → IsIn t (from o (λ g. thing.Route vrf.Default prefix g ∷ [])) → HasNamed (from p (λ g. thing.Route vrf.Default prefix g ∷ [])) t
     by None p e g = elim g [ ]
     by (Some x) None e g = not_some fn.1.0 e
-    by (Some x) (Some z) e (inl is) = (thing.Route prefix z, inl refl, ap name_of (sym is))
+    by (Some x) (Some z) e (inl is) = (thing.Route vrf.Default prefix z, inl refl, ap name_of (sym is))
     by (Some x) (Some z) e (inr g) = elim g [ ]
 same_names plan (key.Route prefix) (row.Route r) n t fr fn h = elim fn [ ]
 same_names plan (key.Route prefix) r n t fr fn h = elim fr [ ]
@@ -184,5 +185,5 @@ pub taken_sets : (plan : Ports) (f : Operation) (o : Option Owner) → SetsTo pl
 taken_sets plan f None = tt
 taken_sets plan f (Some (owner.OfRow k)) = tt
 taken_sets plan f (Some (owner.Bridge lane)) = tt
-taken_sets plan f (Some (owner.Own ip)) = tt
+taken_sets plan f (Some (owner.Own v ip)) = tt
 taken_sets plan f (Some (owner.Group hops)) = tt

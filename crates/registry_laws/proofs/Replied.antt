@@ -70,7 +70,7 @@ here_first : (x : Option Owner) (own : List Change) → (z : Option Owner) × (b
 here_first None own = (None, refl)
 here_first (Some (owner.OfRow k)) own = (Some (owner.OfRow k), refl)
 here_first (Some (owner.Bridge lane)) own = (Some (owner.Bridge lane), refl)
-here_first (Some (owner.Own ip)) own = (Some (owner.Own ip), refl)
+here_first (Some (owner.Own v ip)) own = (Some (owner.Own v ip), refl)
 here_first (Some (owner.Group hops)) own = (None, refl)
 
 not_live : (x : Option Owner) (c : Change) → IsIn c (taken_here x) → MakesRowLive c → ⊥
@@ -78,8 +78,8 @@ not_live None c h live = h
 not_live (Some (owner.OfRow k)) c h live = h
 not_live (Some (owner.Bridge lane)) c (inl e) live = subst MakesRowLive e live
 not_live (Some (owner.Bridge lane)) c (inr h) live = h
-not_live (Some (owner.Own ip)) c (inl e) live = subst MakesRowLive e live
-not_live (Some (owner.Own ip)) c (inr h) live = h
+not_live (Some (owner.Own v ip)) c (inl e) live = subst MakesRowLive e live
+not_live (Some (owner.Own v ip)) c (inr h) live = h
 not_live (Some (owner.Group hops)) c h live = h
 
 live_last : (plan : Ports) (old : Option Row) (f : Operation) (c : Change) (cs : List Change) → f.due ≡ c ∷ cs → IsRestFrom plan old f → MakesRowLive c → (cs ≡ []) × (r : Row) × (f.new ≡ Some r)

@@ -1,5 +1,6 @@
 -- the changes that are left of a row's operation, in their order
 use Rattle.std.proofs.Common.{◌≡◌, ◌⊎◌, ◌∷◌, ◌++◌, ◌∙◌, inl, inr, ℕ, Bool, true, false, List, [], Option, None, Some, option_map, refl, sym, ap, subst, if◌then◌else◌}
+use Rattle.swss_types.specs.declared.vrf.Vrf.TheVariants as vrf
 use Rattle.table_schema.specs.Plan.{IsPlan, Ports}
 use Rattle.table_schema.specs.declared.key.Key.{Key}
 use Rattle.table_schema.specs.declared.key.Key.TheVariants as key
@@ -125,7 +126,7 @@ module _ (plan : Ports) (is : IsPlan plan) where
   sets_order (key.Vlan v) a r fa fr = elim fr [ ]
   sets_order (key.Member v p) a (row.Member x) fa fr = small_order plan (key.Member v p) (Some a) (never_none a) (own_things plan (key.Member v p) a) (own_things plan (key.Member v p) (row.Member x)) (owned (key.Member v p) (row.Member x) fr) (from_small (lane_of plan p) (λ lane. thing.VlanMember v lane x))
   sets_order (key.Member v p) a r fa fr = elim fr [ ]
-  sets_order (key.Intf n) a row.Intf fa fr = small_order plan (key.Intf n) (Some a) (never_none a) (own_things plan (key.Intf n) a) (own_things plan (key.Intf n) row.Intf) (owned (key.Intf n) row.Intf fr) (from_small (base_of plan n) thing.Rif)
+  sets_order (key.Intf n) a row.Intf fa fr = small_order plan (key.Intf n) (Some a) (never_none a) (own_things plan (key.Intf n) a) (own_things plan (key.Intf n) row.Intf) (owned (key.Intf n) row.Intf fr) (from_small (base_of plan n) (λ b. thing.Rif b vrf.Default))
   sets_order (key.Intf n) a r fa fr = elim fr [ ]
   sets_order (key.Addr n ip len) a row.Addr fa fr = small_order plan (key.Addr n ip len) (Some a) (never_none a) (own_things plan (key.Addr n ip len) a) [] (owned (key.Addr n ip len) row.Addr fr) (inl refl)
   sets_order (key.Addr n ip len) a r fa fr = elim fr [ ]
@@ -139,7 +140,7 @@ module _ (plan : Ports) (is : IsPlan plan) where
           set_order plan (key.Neigh n ip) (Some (row.Neigh x)) (never_none (row.Neigh x)) (thing.Neighbor hop x) (thing.Neighbor hop y) (set_all (thing.NextHop hop ∷ []) (thing.NextHop hop ∷ [])) (own (thing.Neighbor hop y) (inl refl)) (inr same) (subst (AreInOrder plan (key.Neigh n ip) (Some (row.Neigh x))) (sym same) tt)
   sets_order (key.Neigh n ip) (row.Neigh x) r fa fr = elim fr [ ]
   sets_order (key.Neigh n ip) a r fa fr = elim fa [ ]
-  sets_order (key.Route prefix) a (row.Route r) fa fr = small_order plan (key.Route prefix) (Some a) (never_none a) (own_things plan (key.Route prefix) a) (own_things plan (key.Route prefix) (row.Route r)) (owned (key.Route prefix) (row.Route r) fr) (from_small (goal_of plan r) (thing.Route prefix))
+  sets_order (key.Route prefix) a (row.Route r) fa fr = small_order plan (key.Route prefix) (Some a) (never_none a) (own_things plan (key.Route prefix) a) (own_things plan (key.Route prefix) (row.Route r)) (owned (key.Route prefix) (row.Route r) fr) (from_small (goal_of plan r) (thing.Route vrf.Default prefix))
   sets_order (key.Route prefix) a r fa fr = elim fr [ ]
   sets_order (key.Other text) a r fa fr = elim fr [ ]
 
@@ -162,14 +163,14 @@ module _ (plan : Ports) (is : IsPlan plan) where
     built_order None own h = h
     built_order (Some (owner.OfRow q)) own h = h
     built_order (Some (owner.Bridge lane)) own h = shared_made (owner.Bridge lane) (thing.BridgePort lane) own tt refl (λ hops e. cc) h
-    built_order (Some (owner.Own ip)) own h = shared_made (owner.Own ip) (thing.Own ip) own tt refl (λ hops e. cc) h
+    built_order (Some (owner.Own v ip)) own h = shared_made (owner.Own v ip) (thing.Own v ip) own tt refl (λ hops e. cc) h
     built_order (Some (owner.Group hops)) own h = h
 
     taken_order : (x : Option Owner) → AreInOrder plan k old (taken_here x)
     taken_order None = tt
     taken_order (Some (owner.OfRow q)) = tt
     taken_order (Some (owner.Bridge lane)) = (λ g. let z = one_owner plan (thing_name.BridgePort lane) (owner.Bridge lane) (owner.Group g.0) refl g.1 in absurd cc, (λ d h e. elim h [ ]), tt)
-    taken_order (Some (owner.Own ip)) = (λ g. let z = one_owner plan (thing_name.Own ip) (owner.Own ip) (owner.Group g.0) refl g.1 in absurd cc, (λ d h e. elim h [ ]), tt)
+    taken_order (Some (owner.Own v ip)) = (λ g. let z = one_owner plan (thing_name.Own v ip) (owner.Own v ip) (owner.Group g.0) refl g.1 in absurd cc, (λ d h e. elim h [ ]), tt)
     taken_order (Some (owner.Group hops)) = tt
 
   -- what is due for a row's operation is in its order

@@ -19,15 +19,16 @@ use Rattle.registry_laws.proofs.Listing.{not_some, never_none}
 in_kinds : (k : Kind) → IsIn k all_kinds
 in_kinds kind.Port = inl refl
 in_kinds kind.Vlan = inr (inl refl)
-in_kinds kind.BridgePort = inr (inr (inl refl))
-in_kinds kind.VlanMember = inr (inr (inr (inl refl)))
-in_kinds kind.Rif = inr (inr (inr (inr (inl refl))))
-in_kinds kind.OwnAddress = inr (inr (inr (inr (inr (inl refl)))))
-in_kinds kind.Neighbor = inr (inr (inr (inr (inr (inr (inl refl))))))
-in_kinds kind.NextHop = inr (inr (inr (inr (inr (inr (inr (inl refl)))))))
-in_kinds kind.Group = inr (inr (inr (inr (inr (inr (inr (inr (inl refl))))))))
-in_kinds kind.GroupMember = inr (inr (inr (inr (inr (inr (inr (inr (inr (inl refl)))))))))
-in_kinds kind.Route = inr (inr (inr (inr (inr (inr (inr (inr (inr (inr (inl refl))))))))))
+in_kinds kind.VirtualRouter = inr (inr (inl refl))
+in_kinds kind.BridgePort = inr (inr (inr (inl refl)))
+in_kinds kind.VlanMember = inr (inr (inr (inr (inl refl))))
+in_kinds kind.Rif = inr (inr (inr (inr (inr (inl refl)))))
+in_kinds kind.OwnAddress = inr (inr (inr (inr (inr (inr (inl refl))))))
+in_kinds kind.Neighbor = inr (inr (inr (inr (inr (inr (inr (inl refl)))))))
+in_kinds kind.NextHop = inr (inr (inr (inr (inr (inr (inr (inr (inl refl))))))))
+in_kinds kind.Group = inr (inr (inr (inr (inr (inr (inr (inr (inr (inl refl)))))))))
+in_kinds kind.GroupMember = inr (inr (inr (inr (inr (inr (inr (inr (inr (inr (inl refl))))))))))
+in_kinds kind.Route = inr (inr (inr (inr (inr (inr (inr (inr (inr (inr (inr (inl refl)))))))))))
 
 -- their levels count up
 abbrev CountUp : ℕ → List Kind → Type 0
@@ -35,7 +36,7 @@ CountUp n [] = Unit {0}
 CountUp n (k ∷ ks) = (level k ≡ n) × CountUp (suc n) ks
 
 kinds_count : CountUp 0 all_kinds
-kinds_count = (refl, (refl, (refl, (refl, (refl, (refl, (refl, (refl, (refl, (refl, (refl, tt)))))))))))
+kinds_count = (refl, (refl, (refl, (refl, (refl, (refl, (refl, (refl, (refl, (refl, (refl, (refl, tt))))))))))))
 
 level_counted_up : (n : ℕ) (ks : List Kind) (k : Kind) → CountUp n ks → IsIn k ks → n ≤ level k
 level_counted_up n [] k up h = elim h [ ]
@@ -45,6 +46,7 @@ level_counted_up n (q ∷ ks) k up (inr h) = let a = level_counted_up (suc n) ks
 pub number_for : (due : List Change) (k : Kind) → number_of_kind (places_for due) k ≡ makes k due
 number_for due kind.Port = refl
 number_for due kind.Vlan = refl
+number_for due kind.VirtualRouter = refl
 number_for due kind.BridgePort = refl
 number_for due kind.VlanMember = refl
 number_for due kind.Rif = refl

@@ -82,7 +82,7 @@ taken_for : (plan : Ports) (p : Operation) (x : Option Owner) → p.retires ≡ 
 taken_for plan p None e = tt
 taken_for plan p (Some (owner.OfRow k)) e = tt
 taken_for plan p (Some (owner.Bridge lane)) e = (thing.BridgePort lane, in-right (thing.BridgePort lane) (own_of plan p.key p.now) (things_retired p.retires) (subst (λ z. IsIn (thing.BridgePort lane) (things_retired z)) (sym e) (inl refl)), refl)
-taken_for plan p (Some (owner.Own ip)) e = (thing.Own ip, in-right (thing.Own ip) (own_of plan p.key p.now) (things_retired p.retires) (subst (λ z. IsIn (thing.Own ip) (things_retired z)) (sym e) (inl refl)), refl)
+taken_for plan p (Some (owner.Own v ip)) e = (thing.Own v ip, in-right (thing.Own v ip) (own_of plan p.key p.now) (things_retired p.retires) (subst (λ z. IsIn (thing.Own v ip) (things_retired z)) (sym e) (inl refl)), refl)
 taken_for plan p (Some (owner.Group hops)) e = tt
 
 -- and it is of what it retires
@@ -90,14 +90,14 @@ taken_own : (plan : Ports) (o : Owner) (c : Change) → IsIn c (taken_here (Some
 taken_own plan (owner.OfRow k) c h = elim h [ ]
 taken_own plan (owner.Bridge lane) c (inl e) = ap (λ z. owner_of plan (changed_name z)) e
 taken_own plan (owner.Bridge lane) c (inr h) = elim h [ ]
-taken_own plan (owner.Own ip) c (inl e) = ap (λ z. owner_of plan (changed_name z)) e
-taken_own plan (owner.Own ip) c (inr h) = elim h [ ]
+taken_own plan (owner.Own v ip) c (inl e) = ap (λ z. owner_of plan (changed_name z)) e
+taken_own plan (owner.Own v ip) c (inr h) = elim h [ ]
 taken_own plan (owner.Group hops) c h = elim h [ ]
 
 group_of : (o : Owner) → group_taken o ≡ whole_group None (group_in (o ∷ []))
 group_of (owner.OfRow k) = refl
 group_of (owner.Bridge lane) = refl
-group_of (owner.Own ip) = refl
+group_of (owner.Own v ip) = refl
 group_of (owner.Group hops) = refl
 
 -- no group is built where no change of one is due

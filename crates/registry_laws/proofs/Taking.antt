@@ -106,15 +106,16 @@ module _ (plan : Ports) (k : Key) where
   one_id : (t : Thing) → owner_of plan (name_of t) ≡ Some (owner.OfRow k) → built_name k t ≡ Some (name.Row k) → ids_for_row k ≡ 1
   one_id (thing.Port p) own b = one_by key.Port (port_named plan _) (λ y e. refl) own
   one_id (thing.Vlan v) own b = ap ids_for_row (sym (row_keys (key.Vlan v) k (same_Some (owner.OfRow (key.Vlan v)) (owner.OfRow k) own)))
+  one_id (thing.VirtualRouter label) own b = not_some (owner.OfRow k) own
   one_id (thing.BridgePort lane) own b = absurd cc
   one_id (thing.VlanMember v lane x) own b = one_by (key.Member v) (port_named plan lane) (λ y e. refl) own
-  one_id (thing.Rif b) own h = one_by key.Intf (interface_on plan b) (λ y e. one_intf b y e) own
-  one_id (thing.Own ip) own b = absurd cc
+  one_id (thing.Rif b v) own h = one_by key.Intf (interface_on plan b) (λ y e. one_intf b y e) own
+  one_id (thing.Own v ip) own b = absurd cc
   one_id (thing.Neighbor hop mac) own b = not_some (name.Row k) b
   one_id (thing.NextHop hop) own b = one_by (λ n. key.Neigh n hop.ip) (interface_on plan hop.on) (λ y e. refl) own
   one_id (thing.Group hops) own b = not_some (name.Row k) b
   one_id (thing.GroupMember hops hop) own b = not_some (name.Row k) b
-  one_id (thing.Route prefix goal) own b = not_some (name.Row k) b
+  one_id (thing.Route v prefix goal) own b = not_some (name.Row k) b
 
 -- ---- what a worker has under way
 
@@ -226,15 +227,16 @@ module _ (plan : Ports) (is : IsPlan plan) (capacities : List ℕ) (names : regi
     builds_by : (t : Thing) (rest : List Change) (due : f.due ≡ Make t ∷ rest) (made : Option Vid) → is_some made ≡ has_number t → (n : Name) → built_name k t ≡ Some n → (state_of names n ≡ state.Building f.worker) × (length (to_list made) ≤ places_of names n)
     builds_by (thing.Port p) rest due made e n h = subst (λ z. (state_of names z ≡ state.Building f.worker) × (length (to_list made) ≤ places_of names z)) (same_Some (name.Row k) n h) (row_builds (thing.Port p) rest due made (λ o shared i. mapped_row plan key.Port (port_named plan _) o shared i) e refl)
     builds_by (thing.Vlan v) rest due made e n h = subst (λ z. (state_of names z ≡ state.Building f.worker) × (length (to_list made) ≤ places_of names z)) (same_Some (name.Row k) n h) (row_builds (thing.Vlan v) rest due made (λ o shared i. some_row plan (key.Vlan v) o shared i) e refl)
+    builds_by (thing.VirtualRouter label) rest due made e n h = subst (λ z. (state_of names z ≡ state.Building f.worker) × (length (to_list made) ≤ places_of names z)) (same_Some (name.Row k) n h) (row_builds (thing.VirtualRouter label) rest due made (λ o shared i. not_some o i) e refl)
     builds_by (thing.BridgePort lane) rest due made e n h = subst (λ z. (state_of names z ≡ state.Building f.worker) × (length (to_list made) ≤ places_of names z)) (same_Some (name.BridgePort lane) n h) (shared_builds (thing.BridgePort lane) rest due made (owner.Bridge lane) tt refl e (λ _. omega arith))
     builds_by (thing.VlanMember v lane z) rest due made e n h = subst (λ z. (state_of names z ≡ state.Building f.worker) × (length (to_list made) ≤ places_of names z)) (same_Some (name.Row k) n h) (row_builds (thing.VlanMember v lane z) rest due made (λ o shared i. mapped_row plan (key.Member v) (port_named plan lane) o shared i) e refl)
-    builds_by (thing.Rif b) rest due made e n h = subst (λ z. (state_of names z ≡ state.Building f.worker) × (length (to_list made) ≤ places_of names z)) (same_Some (name.Row k) n h) (row_builds (thing.Rif b) rest due made (λ o shared i. mapped_row plan key.Intf (interface_on plan b) o shared i) e refl)
-    builds_by (thing.Own ip) rest due made e n h = subst (λ z. (state_of names z ≡ state.Building f.worker) × (length (to_list made) ≤ places_of names z)) (same_Some (name.Own ip) n h) (shared_builds (thing.Own ip) rest due made (owner.Own ip) tt refl e (λ no. absurd cc))
+    builds_by (thing.Rif b v) rest due made e n h = subst (λ z. (state_of names z ≡ state.Building f.worker) × (length (to_list made) ≤ places_of names z)) (same_Some (name.Row k) n h) (row_builds (thing.Rif b v) rest due made (λ o shared i. mapped_row plan key.Intf (interface_on plan b) o shared i) e refl)
+    builds_by (thing.Own v ip) rest due made e n h = subst (λ z. (state_of names z ≡ state.Building f.worker) × (length (to_list made) ≤ places_of names z)) (same_Some (name.Own v ip) n h) (shared_builds (thing.Own v ip) rest due made (owner.Own v ip) tt refl e (λ no. absurd cc))
     builds_by (thing.Neighbor hop mac) rest due made e n h = not_some n h
     builds_by (thing.NextHop hop) rest due made e n h = subst (λ z. (state_of names z ≡ state.Building f.worker) × (length (to_list made) ≤ places_of names z)) (same_Some (name.Row k) n h) (row_builds (thing.NextHop hop) rest due made (λ o shared i. mapped_row plan (λ n. key.Neigh n hop.ip) (interface_on plan hop.on) o shared i) e refl)
     builds_by (thing.Group hops) rest due made e n h = not_some n h
     builds_by (thing.GroupMember hops hop) rest due made e n h = not_some n h
-    builds_by (thing.Route prefix goal) rest due made e n h = not_some n h
+    builds_by (thing.Route v prefix goal) rest due made e n h = not_some n h
 
     pub may_take : (made : Option Vid) → ((t : Thing) (rest : List Change) → f.due ≡ Make t ∷ rest → is_some made ≡ has_number t) → MayTake f made names
     may_take made numbered = record {

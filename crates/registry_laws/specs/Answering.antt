@@ -15,9 +15,9 @@ IsOfGroup plan c = (hops : List WHop) × IsOwnedBy plan (changed_name c) (Group 
 -- the making of that thing of a row by which its name becomes live, with an identifier
 abbrev pub MakesRowLive : Change → Type 0
 MakesRowLive (Make (thing.BridgePort lane)) = ⊥
-MakesRowLive (Make (thing.Own ip)) = ⊥
+MakesRowLive (Make (thing.Own v ip)) = ⊥
 MakesRowLive (Make (thing.Neighbor hop mac)) = ⊥
-MakesRowLive (Make (thing.Route prefix goal)) = ⊥
+MakesRowLive (Make (thing.Route v prefix goal)) = ⊥
 MakesRowLive (Make (thing.Group hops)) = ⊥
 MakesRowLive (Make (thing.GroupMember hops hop)) = ⊥
 MakesRowLive (Make t) = Unit {0}

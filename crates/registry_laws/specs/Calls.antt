@@ -1,5 +1,5 @@
 -- The identifiers that a call names, and how identifiers are tied once it has taken effect. Own.
-use Rattle.std.specs.Prelude.{◌≡◌, ◌++◌, List, [], ◌∷◌, Option, Some}
+use Rattle.std.specs.Prelude.{◌≡◌, ◌++◌, List, [], ◌∷◌, Option, Some, None}
 use Rattle.sai_types.specs.declared.body.Attr.{Attr}
 use Rattle.sai_types.specs.declared.body.Attr.TheVariants as attr
 use Rattle.sai_types.specs.declared.body.Body.{Body}
@@ -17,6 +17,10 @@ use Rattle.sai_types.specs.declared.ids.Vid.{Vid}
 
 -- ---- the identifiers that a call names
 
+abbrev pub ids_of_router : Option Vid → List Vid
+ids_of_router None = []
+ids_of_router (Some v) = v ∷ []
+
 abbrev pub ids_of_base : RifOn Vid → List Vid
 ids_of_base (on.Port v) = v ∷ []
 ids_of_base (on.Vlan v) = v ∷ []
@@ -30,21 +34,22 @@ ids_of_target (to.Group v) = v ∷ []
 abbrev pub ids_of_body : Body Vid → List Vid
 ids_of_body (body.Port lanes speed mtu up) = []
 ids_of_body (body.Vlan vlan) = []
+ids_of_body (body.VirtualRouter label) = []
 ids_of_body (body.BridgePort v) = v ∷ []
 ids_of_body (body.VlanMember v u tagging) = v ∷ u ∷ []
-ids_of_body (body.Rif base) = ids_of_base base
-ids_of_body (body.OwnAddress ip) = []
+ids_of_body (body.Rif vr base) = ids_of_router vr ++ ids_of_base base
+ids_of_body (body.OwnAddress vr ip) = ids_of_router vr
 ids_of_body (body.Neighbor v ip mac) = v ∷ []
 ids_of_body (body.NextHop v ip) = v ∷ []
 ids_of_body body.Group = []
 ids_of_body (body.GroupMember v u weight) = v ∷ u ∷ []
-ids_of_body (body.Route prefix target) = ids_of_target target
+ids_of_body (body.Route vr prefix target) = ids_of_router vr ++ ids_of_target target
 
 abbrev pub ids_of_entry : Entry Vid → List Vid
 ids_of_entry (entry.Oid v) = v ∷ []
-ids_of_entry (entry.Own ip) = []
+ids_of_entry (entry.Own vr ip) = ids_of_router vr
 ids_of_entry (entry.Neigh v ip) = v ∷ []
-ids_of_entry (entry.Route prefix) = []
+ids_of_entry (entry.Route vr prefix) = ids_of_router vr
 
 abbrev pub ids_of_attr : Attr Vid → List Vid
 ids_of_attr (attr.To target) = ids_of_target target

@@ -41,7 +41,7 @@ with_planned plan (body.Port lanes speed mtu up) (attr.Mtu s) h = h
 with_planned plan (body.Port lanes speed mtu up) (attr.Up s) h = h
 with_planned plan (body.VlanMember vlan bp tagging) (attr.Tagging t) h = h
 with_planned plan (body.Neighbor rif ip mac) (attr.Mac m) h = h
-with_planned plan (body.Route prefix to) (attr.To t) h = h
+with_planned plan (body.Route vr prefix to) (attr.To t) h = h
 with_planned plan b _ h = h
 
 -- where a create is legal there is room

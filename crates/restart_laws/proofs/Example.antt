@@ -41,6 +41,7 @@ nothing_planned : (capacities : List ℕ) → PlansHitless capacities 0 [] [] []
 nothing_planned capacities = record {
   steps = [];
   fits = λ kind names x. let none = none_lacking kind names x in omega (arith, none);
+  routers = λ on v w i j. elim i [ ];
   is_plan = record { makes = λ t h. elim h [ ]; sets = λ t h. elim h [ ]; removes = λ t h. elim h [ ]; whole = λ t h. elim h [ ]; gone = λ t h. elim h [ ]; in_order = tt };
   run = refl;
 }

@@ -1,5 +1,5 @@
 -- the calls of a plan, hitless or cold, from a chip that was listed lead to the things of the view
-use Rattle.std.proofs.Common.{◌≡◌, ◌+◌, ◌++◌, ◌≤◌, ◌∷◌, inl, inr, ℕ, length, true, List, [], refl, sym, ap, subst}
+use Rattle.std.proofs.Common.{◌≡◌, ◌+◌, ◌++◌, ◌≤◌, ◌∷◌, ◌∙◌, inl, inr, ℕ, length, true, List, [], refl, sym, ap, subst}
 use Rattle.std.proofs.lemmas.List.{append-nil}
 use Rattle.table_schema.specs.Plan.{Ports, IsPlan}
 use Rattle.sai_types.specs.declared.ids.Rid.{Rid}
@@ -28,8 +28,7 @@ use Rattle.plan_laws.specs.Applied.{AppliesCold, AppliesHitless, IsListedChip, I
 use Rattle.plan_laws.specs.Moments.{attr_place, MakesChange, MakesChanges, SetsThing, layout_after}
 use Rattle.plan_laws.specs.Old.{old_layout, old_things, tag_of}
 use Rattle.plan_laws.specs.Plans.{PlanChange, Make, Set, Remove}
-use Rattle.plan_laws.specs.Views.{made_names}
-use Rattle.plan_laws.proofs.Apart.{PortsApart, lanes-new, lanes-old}
+use Rattle.plan_laws.specs.Views.{PortsApart, SameRouters, made_names}
 use Rattle.plan_laws.proofs.Applied.{hitless-end, plan-safe}
 use Rattle.plan_laws.proofs.Cold.{cold-end, cold-legal, makes-safe}
 use Rattle.plan_laws.proofs.Rooms.{fits-room}
@@ -101,24 +100,26 @@ module _ (plan : Ports) (is : IsPlan plan) {capacities : List ℕ} {made : ℕ} 
   lane_by : (b : Body Rid) → IsPlannedBody plan b → has_first b ≡ true
   lane_by (body.Port lanes speed mtu up) h = has-first lanes (lanes-planned plan h.0 lanes is h.1)
   lane_by (body.Vlan v) h = refl
+  lane_by (body.VirtualRouter label) h = refl
   lane_by (body.BridgePort v) h = refl
   lane_by (body.VlanMember v w x) h = refl
-  lane_by (body.Rif v) h = refl
-  lane_by (body.OwnAddress v) h = refl
+  lane_by (body.Rif v w) h = refl
+  lane_by (body.OwnAddress v w) h = refl
   lane_by (body.Neighbor v w x) h = refl
   lane_by (body.NextHop v w) h = refl
   lane_by body.Group h = refl
   lane_by (body.GroupMember v w n) h = refl
-  lane_by (body.Route v w) h = refl
+  lane_by (body.Route v w x) h = refl
 
   prefix_by : (b : Body Rid) → IsPlannedBody plan b → HasPrefix b
-  prefix_by (body.Route prefix to) h = h
+  prefix_by (body.Route v prefix to) h = h
   prefix_by (body.Port lanes speed mtu up) h = tt
   prefix_by (body.Vlan v) h = tt
+  prefix_by (body.VirtualRouter label) h = tt
   prefix_by (body.BridgePort v) h = tt
   prefix_by (body.VlanMember v w x) h = tt
-  prefix_by (body.Rif v) h = tt
-  prefix_by (body.OwnAddress v) h = tt
+  prefix_by (body.Rif v w) h = tt
+  prefix_by (body.OwnAddress v w) h = tt
   prefix_by (body.Neighbor v w x) h = tt
   prefix_by (body.NextHop v w) h = tt
   prefix_by body.Group h = tt
@@ -141,6 +142,10 @@ module _ (plan : Ports) (is : IsPlan plan) {capacities : List ℕ} {made : ℕ} 
         let s = x.1 in
         by-body plan (old_layout objects new) t s.body (body-seen (tag_of objects new) made objects chip.whole s.entry s.body t s.found s.thing) (chip.planned s.entry s.body s.found)
 
+    -- no interface has to move: all are in the default router
+    pub routers-same : SameRouters (old_things objects new) new
+    routers-same on v w i j = listed_planned (thing.Rif on v) i ∙ sym (new_planned (thing.Rif on w) j)
+
     ports_apart : (others : List Thing) → ((t : Thing) → IsIn t others → IsPlannedThing plan t) → PortsApart new others
     ports_apart others planned p q i j share = lanes_by p q (new_planned (thing.Port p) i) (planned (thing.Port q) j) share
 
@@ -151,7 +156,7 @@ module _ (plan : Ports) (is : IsPlan plan) {capacities : List ℕ} {made : ℕ} 
       is-hitless = record {
         chip = chip-listed;
         view = view;
-        lanes = lanes-old view chip-listed (ports_apart (old_things objects new) listed_planned) (ports_apart new new_planned);
+        lanes = record { beside = ports_apart (old_things objects new) listed_planned; within = ports_apart new new_planned };
         is_plan = x.is_plan;
         room = fits-room x.is_plan capacities objects x.fits;
       }
@@ -171,7 +176,7 @@ module _ (plan : Ports) (is : IsPlan plan) {capacities : List ℕ} {made : ℕ} 
     module _ (calls : List (Call Rid)) (x : PlansCold capacities made objects new calls) (fits : (kind : Kind) → length (made_names kind x.makes) ≤ capacity_of capacities kind) where
       pub applies-cold : AppliesCold capacities made objects new x.removes x.makes x.front x.rest
       applies-cold = record {
-        planned = record { chip = chip-listed; view = view; lanes = lanes-new view (ports_apart new new_planned); removing = x.removing; making = x.making; within = chip.fits; room = fits };
+        planned = record { chip = chip-listed; view = view; lanes = record { beside = λ p q i j share. elim j [ ]; within = ports_apart new new_planned }; removing = x.removing; making = x.making; within = chip.fits; room = fits };
         removing = x.first;
         making = x.second;
       }

@@ -2,6 +2,7 @@
 use Rattle.std.proofs.Common.{◌≡◌, ◌⊎◌, ◌+◌, ◌≤◌, ◌∷◌, ◌++◌, ◌∙◌, inl, inr, ℕ, zero, suc, List, [], length, Option, None, Some, refl, sym, ap, subst, arith}
 use Rattle.std.proofs.lemmas.List.{append-nil, append_assoc, length-append}
 use Rattle.swss_types.specs.declared.address.Prefix.{Prefix}
+use Rattle.swss_types.specs.declared.vrf.Vrf.{Vrf}
 use Rattle.table_schema.specs.Plan.{IsPlan, Ports}
 use Rattle.table_schema.specs.declared.key.Key.TheVariants as key
 use Rattle.table_schema.specs.declared.row.Row.{Row}
@@ -47,18 +48,18 @@ module _ (plan : Ports) (is : IsPlan plan) (workers : ℕ) (capacities : List �
   abbrev AreRouted : List Sent → List (Call Rid) → Type 0
   AreRouted taken es = (j : ℕ) → j ≤ length es → RoutesAreOfRows plan taken (chip_after es j)
 
-  abbrev HasRow : List Sent → Prefix → Goal → Type 0
-  HasRow taken prefix goal = (n : ℕ) × (row : Row) × (n ≤ length taken) × (good_rows_at plan taken n (key.Route prefix) ≡ Some row) × IsIn (thing.Route prefix goal) (things_of plan (key.Route prefix) row)
+  abbrev HasRow : List Sent → Vrf → Prefix → Goal → Type 0
+  HasRow taken v prefix goal = (n : ℕ) × (row : Row) × (n ≤ length taken) × (good_rows_at plan taken n (key.Route prefix) ≡ Some row) × IsIn (thing.Route v prefix goal) (things_of plan (key.Route prefix) row)
 
   -- after one more call of a plan, whether it was answered so or not
   apply_routes : (s : LoggedService) (call : Call Rid) (rest : List (Call Rid)) → Told s → Under s → AreRouted s.log.taken s.effects → s.service.warm ≡ Applying → s.service.left ≡ call ∷ rest → RoutesAreOfRows plan s.log.taken (after_calls 0 [] (s.effects ++ call ∷ []))
-  apply_routes s call rest told under routes at next prefix goal h = by (plan-origin plan is workers capacities u.first u.began u.holds u.restores (u.done ++ call ∷ []) rest (u.all ∙ ap (λ z. u.done ++ z) next ∙ sym (append_assoc u.done (call ∷ []) rest)) It tt (subst (λ z. IsIn It (chip_things z)) same (in_those It (named (after_calls 0 [] (s.effects ++ call ∷ []))) h)))
+  apply_routes s call rest told under routes at next v prefix goal h = by (plan-origin plan is workers capacities u.first u.began u.holds u.restores (u.done ++ call ∷ []) rest (u.all ∙ ap (λ z. u.done ++ z) next ∙ sym (append_assoc u.done (call ∷ []) rest)) It tt (subst (λ z. IsIn It (chip_things z)) same (in_those It (named (after_calls 0 [] (s.effects ++ call ∷ []))) h)))
     where
       u : IsUnderWay plan is workers capacities s
       u = under at
 
       It : Thing
-      It = thing.Route prefix goal
+      It = thing.Route v prefix goal
 
       same : after_calls 0 [] (s.effects ++ call ∷ []) ≡ after_calls u.first.core.made u.first.core.objects (u.done ++ call ∷ [])
       same =
@@ -71,13 +72,13 @@ module _ (plan : Ports) (is : IsPlan plan) (workers : ℕ) (capacities : List �
       first : chip_after s.effects (length u.before + 0) ≡ u.first.core.objects
       first = chip-at plan is workers capacities s u [] u.done refl
 
-      by : IsIn It (chip_things u.first.core.objects) ⊎ IsIn It (only_things u.restores.view.machine.stands) → HasRow s.log.taken prefix goal
-      by (inl i) = routes (length u.before + 0) (omega (arith, ap length u.effects, length-append u.before u.done)) prefix goal (subst (λ z. IsIn (Some It) (named z)) (sym first) (those_in It (named u.first.core.objects) i))
+      by : IsIn It (chip_things u.first.core.objects) ⊎ IsIn It (only_things u.restores.view.machine.stands) → HasRow s.log.taken v prefix goal
+      by (inl i) = routes (length u.before + 0) (omega (arith, ap length u.effects, length-append u.before u.done)) v prefix goal (subst (λ z. IsIn (Some It) (named z)) (sym first) (those_in It (named u.first.core.objects) i))
       by (inr i) =
           let a = in_state plan is workers capacities s.service Applying told.holds at in
           let stands : StandsIn s.service.core.machine It = subst (λ z. StandsIn z It) (sym u.machine) (things-in u.restores.view.machine.stands It i) in
-          let row = row-of_route plan s.service.core.machine a.view.sound prefix goal stands in
-          route_dated plan is workers capacities s.log.taken s.service.core.written.taken prefix goal row.0 told.tells.taken (a.view.good (key.Route prefix) row.0 row.1) row.2
+          let row = row-of_route plan s.service.core.machine a.view.sound v prefix goal stands in
+          route_dated plan is workers capacities s.log.taken s.service.core.written.taken v prefix goal row.0 told.tells.taken (a.view.good (key.Route prefix) row.0 row.1) row.2
 
   -- ---- with each event
 
@@ -149,7 +150,7 @@ module _ (plan : Ports) (is : IsPlan plan) (workers : ℕ) (capacities : List �
   routed_session s (t ∷ ts) x run = routed_session t ts (routed_step s t x run.0) run.1
 
   routed_first : IsRouted new_session
-  routed_first = record { told = told-first plan is workers capacities; under = λ at. apart Reconciled Applying at (λ e. cc); routes = λ j le prefix goal h. elim (subst (λ z. IsIn (Some (thing.Route prefix goal)) (named z)) (nothing j) h) [ ] }
+  routed_first = record { told = told-first plan is workers capacities; under = λ at. apart Reconciled Applying at (λ e. cc); routes = λ j le v prefix goal h. elim (subst (λ z. IsIn (Some (thing.Route v prefix goal)) (named z)) (nothing j) h) [ ] }
     where
       nothing : (n : ℕ) → chip_after [] n ≡ []
       nothing zero = refl

@@ -54,10 +54,10 @@ use Rattle.restart_laws.specs.Service.{Restores, Service}
 use Rattle.restart_laws.proofs.Begun.{same_rows}
 use Rattle.restart_laws.proofs.Ended.{hitless-applies, hitless-planned}
 use Rattle.restart_laws.proofs.Holding.{planned-from}
-use Rattle.restart_laws.proofs.Leading.{chip-listed}
+use Rattle.restart_laws.proofs.Leading.{chip-listed, routers-same}
 use Rattle.restart_laws.proofs.Passing.{restored-keeps}
 use Rattle.restart_laws.proofs.Underway.{IsUnderWay, chip-at}
-use Rattle.restart_laws.proofs.Viewing.{in-things, things-in, view-is}
+use Rattle.restart_laws.proofs.Viewing.{in-things, thing-planned, things-in, view-is}
 
 cut_list : {X : Type 0} (n : ℕ) (xs : List X) → n ≤ length xs → (ys : List X) × (zs : List X) × (xs ≡ ys ++ zs) × (length ys ≡ n)
 cut_list zero xs le = ([], xs, refl, refl)
@@ -117,7 +117,7 @@ module _ (plan : Ports) (is : IsPlan plan) (workers : ℕ) (capacities : List �
 
         by : (m : Mode) → IsPlannedAs m capacities s.core.made objects new t.left → m ≡ mode.Hitless
         by mode.Hitless p = refl
-        by mode.Cold p = absurd (p.lacks (fits-shown chip new view capacities lacking))
+        by mode.Cold p = absurd (p.lacks (fits-shown chip new view capacities lacking) (routers-same plan is h.safe.chip new (thing-planned plan is workers capacities x.view kept.0 kept.1) view))
 
     -- what it makes and removes
     abbrev Applies : x.mode ≡ mode.Hitless → Type 0

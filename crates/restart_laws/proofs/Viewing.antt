@@ -107,7 +107,7 @@ module _ (plan : Ports) (is : IsPlan plan) (workers : ℕ) (capacities : List �
   view-is = let g = grouped plan T s.machine sound quiet in record {
     named = record {
       one = λ t u i j e. let x = new_stands t i in let y = new_stands u j in (kept.laid.one x.0 y.0 t u x.1 y.1 e).1;
-      proper = λ p g i. thing-planned (thing.Route p g) i;
+      proper = λ v p g i. thing-planned (thing.Route v p g) i;
     };
     within = record { refers = λ t n i r. let x = refers_by t n (new_stands t i) r in (x.0, stands_new x.0 x.1, x.2) };
     grouped = record {

@@ -11,22 +11,23 @@ use Rattle.plan_laws.specs.Applied.{nothing}
 use Rattle.plan_laws.specs.Moments.{MakesChanges}
 use Rattle.plan_laws.specs.Old.{old_layout, old_things}
 use Rattle.plan_laws.specs.Plans.{PlanChange, IsViewPlan, cold_rank, hitless_rank}
-use Rattle.plan_laws.specs.Views.{FitsHitless}
+use Rattle.plan_laws.specs.Views.{FitsHitless, SameRouters}
 
--- the old and the new things fit together, and the calls make the changes of a hitless plan
+-- the old and the new things fit together, no interface moves, and the calls make the changes of a hitless plan
 pub record PlansHitless (capacities : List ℕ) (made : ℕ) (objects : Objects) (new : List Thing) (calls : List (Call Rid)) : Type 0 where
   pub steps : List PlanChange
   pub fits : FitsHitless capacities objects (old_things objects new) new
+  pub routers : SameRouters (old_things objects new) new
   pub is_plan : IsViewPlan hitless_rank (old_things objects new) new steps
   pub run : MakesChanges made (old_layout objects new) steps calls
 
--- they do not fit, and the calls remove all that stands and then make all that is new
+-- they do not fit, or an interface moves, and the calls remove all that stands and then make all that is new
 pub record PlansCold (capacities : List ℕ) (made : ℕ) (objects : Objects) (new : List Thing) (calls : List (Call Rid)) : Type 0 where
   pub removes : List PlanChange
   pub makes : List PlanChange
   pub front : List (Call Rid)
   pub rest : List (Call Rid)
-  pub lacks : FitsHitless capacities objects (old_things objects new) new → ⊥
+  pub lacks : FitsHitless capacities objects (old_things objects new) new → SameRouters (old_things objects new) new → ⊥
   pub removing : IsViewPlan cold_rank (old_things objects new) [] removes
   pub making : IsViewPlan cold_rank [] new makes
   pub first : MakesChanges made (old_layout objects new) removes front

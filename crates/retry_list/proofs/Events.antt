@@ -28,6 +28,7 @@ use Rattle.retry_list.specs.Reasons.{event_of, is_about}
 kind_exact : CmpEqualImpliesEq kind_ord.ghosts.cmp
 kind_exact kind.Port kind.Port h = refl
 kind_exact kind.Vlan kind.Vlan h = refl
+kind_exact kind.VirtualRouter kind.VirtualRouter h = refl
 kind_exact kind.BridgePort kind.BridgePort h = refl
 kind_exact kind.VlanMember kind.VlanMember h = refl
 kind_exact kind.Rif kind.Rif h = refl

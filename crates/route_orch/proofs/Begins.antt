@@ -1,6 +1,7 @@
 -- what begins for a route
 use Rattle.std.proofs.Common.{◌≡◌, ◌+◌, ℕ, ◌==◌, Bool, true, false, cond, List, [], ◌∷◌, map, length, Option, Some, None, is_some, Result, OnOk, OnErr, IfOk, IfErr, if◌then◌else◌, refl, sym, ap, ap₂, subst, ◌∙◌, arith, Bor}
 use Rattle.swss_types.specs.declared.out_of_memory.OutOfMemory.{OutOfMemory}
+use Rattle.swss_types.specs.declared.vrf.Vrf.TheVariants as vrf
 use Rattle.table_schema.specs.Names.{names_of}
 use Rattle.table_schema.specs.Plan.{Ports}
 use Rattle.table_schema.specs.declared.key.Key.{Key}
@@ -43,13 +44,13 @@ use Rattle.route_orch.proofs.Starts.{names-due}
 -- ---- places
 
 abbrev route_places : ℕ → List ℕ
-route_places n = 0 ∷ 0 ∷ 0 ∷ 0 ∷ 0 ∷ 0 ∷ 0 ∷ 0 ∷ 0 ∷ 0 ∷ n ∷ []
+route_places n = 0 ∷ 0 ∷ 0 ∷ 0 ∷ 0 ∷ 0 ∷ 0 ∷ 0 ∷ 0 ∷ 0 ∷ 0 ∷ n ∷ []
 
 abbrev group_places : List WHop → ℕ → List ℕ
-group_places hops n = 0 ∷ 0 ∷ 0 ∷ 0 ∷ 0 ∷ 0 ∷ 0 ∷ 0 ∷ 1 ∷ length hops ∷ n ∷ []
+group_places hops n = 0 ∷ 0 ∷ 0 ∷ 0 ∷ 0 ∷ 0 ∷ 0 ∷ 0 ∷ 0 ∷ 1 ∷ length hops ∷ n ∷ []
 
-group_counted : (hops : List WHop) (n : ℕ) → 0 ∷ 0 ∷ 0 ∷ 0 ∷ 0 ∷ 0 ∷ 0 ∷ 0 ∷ 1 ∷ (0 + (length hops + 0)) ∷ n ∷ [] ≡ group_places hops n
-group_counted hops n = ap (λ m. 0 ∷ 0 ∷ 0 ∷ 0 ∷ 0 ∷ 0 ∷ 0 ∷ 0 ∷ 1 ∷ m ∷ n ∷ []) (omega arith)
+group_counted : (hops : List WHop) (n : ℕ) → 0 ∷ 0 ∷ 0 ∷ 0 ∷ 0 ∷ 0 ∷ 0 ∷ 0 ∷ 0 ∷ 1 ∷ (0 + (length hops + 0)) ∷ n ∷ [] ≡ group_places hops n
+group_counted hops n = ap (λ m. 0 ∷ 0 ∷ 0 ∷ 0 ∷ 0 ∷ 0 ∷ 0 ∷ 0 ∷ 0 ∷ 1 ∷ m ∷ n ∷ []) (omega arith)
 
 set_group : (hops : List WHop) (t u : Thing) → places_for (make_all (shared_things (Group hops)) (set_to t u [])) ≡ group_places hops 0
 set_group hops t u =
@@ -67,7 +68,7 @@ by_group names None applied own groups plain built = plain
 by_group names (Some (name.Group hops)) applied own groups plain built = by_state (state_of names (name.Group hops)) hops applied own plain (built hops)
 by_group names (Some (name.Row k)) applied own groups plain built = elim groups [ ]
 by_group names (Some (name.BridgePort lane)) applied own groups plain built = elim groups [ ]
-by_group names (Some (name.Own ip)) applied own groups plain built = elim groups [ ]
+by_group names (Some (name.Own v ip)) applied own groups plain built = elim groups [ ]
 
 -- ---- where nothing is missing
 
@@ -75,13 +76,13 @@ module _ (plan : Ports) (names : Names) (group : Option Name) (groups : AreGroup
   places : (k : Key) (old : Option Row) (r : Row) → IsRouteKey k → ((a : Row) → old ≡ Some a → Fits plan k a) → Fits plan k r → uses_of plan k (Some r) ≡ owners_of group → places_for (built_first (to_build plan names k (Some r)) (own_changes plan k old (Some r))) ≡ places_needed (lacks_shared names group) group (is_some old)
   places (key.Route p) None (row.Route r) is of_old fits shares =
       ap (λ us. places_for (built_first (first_absent names us) (own_changes plan (key.Route p) None (Some (row.Route r))))) shares
-      ∙ ap (λ o. places_for (built_first (first_absent names (owners_of group)) (make_all (from o (λ g. thing.Route p g ∷ [])) []))) fits.1.1
-      ∙ by_group names group false (Make (thing.Route p fits.1.0) ∷ []) groups refl (λ hops. places-built hops (Make (thing.Route p fits.1.0) ∷ []) ∙ group_counted hops 1)
+      ∙ ap (λ o. places_for (built_first (first_absent names (owners_of group)) (make_all (from o (λ g. thing.Route vrf.Default p g ∷ [])) []))) fits.1.1
+      ∙ by_group names group false (Make (thing.Route vrf.Default p fits.1.0) ∷ []) groups refl (λ hops. places-built hops (Make (thing.Route vrf.Default p fits.1.0) ∷ []) ∙ group_counted hops 1)
   places (key.Route p) (Some (row.Route a)) (row.Route r) is of_old fits shares =
       let was = (of_old (row.Route a) refl).1 in
       ap (λ us. places_for (built_first (first_absent names us) (own_changes plan (key.Route p) (Some (row.Route a)) (Some (row.Route r))))) shares
-      ∙ ap₂ (λ x y. places_for (built_first (first_absent names (owners_of group)) (set_all (from x (λ g. thing.Route p g ∷ [])) (from y (λ g. thing.Route p g ∷ []))))) was.1 fits.1.1
-      ∙ by_group names group true (set_to (thing.Route p was.0) (thing.Route p fits.1.0) []) groups (places-set (thing.Route p was.0) (thing.Route p fits.1.0) []) (λ hops. set_group hops (thing.Route p was.0) (thing.Route p fits.1.0))
+      ∙ ap₂ (λ x y. places_for (built_first (first_absent names (owners_of group)) (set_all (from x (λ g. thing.Route vrf.Default p g ∷ [])) (from y (λ g. thing.Route vrf.Default p g ∷ []))))) was.1 fits.1.1
+      ∙ by_group names group true (set_to (thing.Route vrf.Default p was.0) (thing.Route vrf.Default p fits.1.0) []) groups (places-set (thing.Route vrf.Default p was.0) (thing.Route vrf.Default p fits.1.0) []) (λ hops. set_group hops (thing.Route vrf.Default p was.0) (thing.Route vrf.Default p fits.1.0))
   places (key.Route p) (Some (row.Route a)) _ is of_old fits shares = elim fits [ ]
   places (key.Route p) (Some a) r is of_old fits shares = elim (of_old a refl) [ ]
   places (key.Route p) None _ is of_old fits shares = elim fits [ ]
@@ -133,7 +134,7 @@ some-row (Some r) = refl
 -- ---- the start of a route that is to go
 
 pub removed-places : (plan : Ports) (k : Key) (a : Row) → IsRouteKey k → places_for (own_changes plan k (Some a) None) ≡ no_places
-removed-places plan (key.Route p) (row.Route a) is = places-taken (from (goal_of plan a) (λ g. thing.Route p g ∷ []))
+removed-places plan (key.Route p) (row.Route a) is = places-taken (from (goal_of plan a) (λ g. thing.Route vrf.Default p g ∷ []))
 removed-places plan (key.Route p) _ is = refl
 removed-places plan _ a is = elim is [ ]
 

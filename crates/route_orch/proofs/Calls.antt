@@ -3,6 +3,7 @@ use Rattle.std.proofs.Common.{◌≡◌, ◌⊎◌, inl, inr, ℕ, [], ◌∷◌
 use Rattle.std.proofs.lemmas.Bool.{false≢true}
 use Rattle.std.proofs.lemmas.Option.{same_Some}
 use Rattle.swss_types.specs.declared.address.Prefix.{Prefix}
+use Rattle.swss_types.specs.declared.vrf.Vrf.TheVariants as vrf
 use Rattle.table_schema.specs.Plan.{IsPlan, Ports}
 use Rattle.table_schema.specs.declared.key.Key.TheVariants as key
 use Rattle.table_schema.specs.declared.row.Row.TheVariants as row
@@ -21,7 +22,7 @@ use Rattle.sai_types.specs.declared.thing.Goal.TheVariants as goal
 use Rattle.sai_types.specs.declared.thing.Thing.{Thing}
 use Rattle.sai_types.specs.declared.thing.Thing.TheVariants as thing
 use Rattle.sai_types.proofs.Membership.{in-left}
-use Rattle.chip_layout.specs.Bodies.{IsAt, IsBody, IsChange, first_thing_name, second_of, to_with}
+use Rattle.chip_layout.specs.Bodies.{IsAt, IsBody, IsChange, first_thing_name, to_with}
 use Rattle.row_layout.specs.Operations.{Make, Set, Take}
 use Rattle.row_layout.specs.Rows.{Owner, OfRow, goal_of}
 use Rattle.row_layout.specs.Shared.{shared_things}
@@ -49,52 +50,47 @@ route_operation_told f b i wanted wanted' s is same at has =
     sym (ap (λ z. operation_of_route (route_state wanted z)) same ∙ ap operation_of_route is)
     ∙ ap₂ (λ z w. route_operation i.worker i.prefix i.applied w i.target z i.leaves i.retires) at has
 
--- what has the name of a route is a route
-is_route : (t : Thing) (p : Prefix) → name_of t ≡ thing_name.Route p → (g : Goal) × (t ≡ thing.Route p g)
-is_route (thing.Route q g) p is = (g, cc)
+-- what has the name of a route in the default router is that route
+is_route : (t : Thing) (p : Prefix) → name_of t ≡ thing_name.Route vrf.Default p → (g : Goal) × (t ≡ thing.Route vrf.Default p g)
+is_route (thing.Route v q g) p is = (g, cc)
 is_route (thing.Port x) p is = absurd cc
 is_route (thing.Vlan v) p is = absurd cc
+is_route (thing.VirtualRouter label) p is = absurd cc
 is_route (thing.BridgePort lane) p is = absurd cc
 is_route (thing.VlanMember v lane tagging) p is = absurd cc
-is_route (thing.Rif b) p is = absurd cc
-is_route (thing.Own ip) p is = absurd cc
+is_route (thing.Rif b v) p is = absurd cc
+is_route (thing.Own v ip) p is = absurd cc
 is_route (thing.Neighbor hop mac) p is = absurd cc
 is_route (thing.NextHop hop) p is = absurd cc
 is_route (thing.Group hops) p is = absurd cc
 is_route (thing.GroupMember hops hop) p is = absurd cc
 
-no_second : (at : thing_name.ThingName → Vid → Type 0) (g : Goal) (v : Vid) → IsAt at (second_of (goal_names g)) v
-no_second at goal.Drop v = tt
-no_second at (goal.Direct b) v = tt
-no_second at (goal.Via hop) v = tt
-no_second at (goal.Group hops) v = tt
-
-any_first : (p : Prefix) (at : thing_name.ThingName → Vid → Type 0) (g : Goal) (v : Vid) → IsBody (λ n w. IsEnteredBy (thing.Route p g) → at n w) (thing.Route p g) (body.Route p (to_with g v))
-any_first p at g v = record { first = v; second = v; first_at = by g; second_at = no_second (λ n w. IsEnteredBy (thing.Route p g) → at n w) g v; body_is = refl }
+any_first : (p : Prefix) (at : thing_name.ThingName → Vid → Type 0) (g : Goal) (v : Vid) → IsBody (λ n w. IsEnteredBy (thing.Route vrf.Default p g) → at n w) (thing.Route vrf.Default p g) (body.Route None p (to_with g v))
+any_first p at g v = record { first = v; second = v; first_at = by g; second_at = tt; body_is = refl }
   where
-    by : (h : Goal) → IsAt (λ n w. IsEnteredBy (thing.Route p g) → at n w) (first_thing_name (goal_names h)) v
+    by : (h : Goal) → IsAt (λ n w. IsEnteredBy (thing.Route vrf.Default p g) → at n w) (first_thing_name (goal_names h)) v
     by goal.Drop = tt
     by (goal.Direct b) = λ e. elim e [ ]
     by (goal.Via hop) = λ e. elim e [ ]
     by (goal.Group hops) = λ e. elim e [ ]
 
--- the entry of a route is its prefix
-route_entry : (p : Prefix) (at : thing_name.ThingName → Vid → Type 0) (t : Thing) → name_of t ≡ thing_name.Route p → IsEntryOf at t (entry.Route p)
+-- the entry of a route is its prefix, in the default router
+route_entry : (p : Prefix) (at : thing_name.ThingName → Vid → Type 0) (t : Thing) → name_of t ≡ thing_name.Route vrf.Default p → IsEntryOf at t (entry.Route None p)
 route_entry p at t is =
     let (g, same) = is_route t p is in
-    subst (λ z. IsEntryOf at z (entry.Route p)) (sym same) (record { body = body.Route p (to_with g (record { 0 = 0 })); of = any_first p at g (record { 0 = 0 }); id = record { 0 = 0 }; numbered = λ h. absurd (false≢true h); is = refl })
+    subst (λ z. IsEntryOf at z (entry.Route None p)) (sym same) (record { body = body.Route None p (to_with g (record { 0 = 0 })); of = any_first p at g (record { 0 = 0 }); id = record { 0 = 0 }; numbered = λ h. absurd (false≢true h); is = refl })
 
 module _ (plan : Ports) (p : Prefix) where
-  own_goal : (r : RouteRow) (g : Goal) (t : Thing) → IsIn t (own_of plan (key.Route p) (Some (row.Route r))) → t ≡ thing.Route p g → goal_of plan r ≡ Some g
+  own_goal : (r : RouteRow) (g : Goal) (t : Thing) → IsIn t (own_of plan (key.Route p) (Some (row.Route r))) → t ≡ thing.Route vrf.Default p g → goal_of plan r ≡ Some g
   own_goal r g t h is =
-      let (h', at, there) = from_in (goal_of plan r) (λ g. thing.Route p g ∷ []) t h in
-      at ∙ ap Some (goal-same p h' g (sym (only (λ z. z ≡ thing.Route p h') t (thing.Route p h') refl there) ∙ is))
+      let (h', at, there) = from_in (goal_of plan r) (λ g. thing.Route vrf.Default p g ∷ []) t h in
+      at ∙ ap Some (goal-same p h' g (sym (only (λ z. z ≡ thing.Route vrf.Default p h') t (thing.Route vrf.Default p h') refl there) ∙ is))
 
   -- what is shared holds no route
-  no_shared : IsPlan plan → (g : Goal) (o : Owner) → IsIn (thing.Route p g) (shared_things o) → ⊥
+  no_shared : IsPlan plan → (g : Goal) (o : Owner) → IsIn (thing.Route vrf.Default p g) (shared_things o) → ⊥
   no_shared is g o h =
-      let same : OfRow (key.Route p) ≡ o = same_Some (OfRow (key.Route p)) o (shared-own plan is o (thing.Route p g) h) in
-      subst (λ o. IsIn (thing.Route p g) (shared_things o)) (sym same) h
+      let same : OfRow (key.Route p) ≡ o = same_Some (OfRow (key.Route p)) o (shared-own plan is o (thing.Route vrf.Default p g) h) in
+      subst (λ o. IsIn (thing.Route vrf.Default p g) (shared_things o)) (sym same) h
 
   module _ (w : ℕ) (applied : Option RouteRow) (t : Target) (leaves retires : Option Name) where
     abbrev Stage : RouteStep → Option RouteRow → Operation
@@ -103,19 +99,19 @@ module _ (plan : Ports) (p : Prefix) where
     made_goal : (wanted : Option RouteRow) → IsOver plan (Stage step.Make wanted) → (r : RouteRow) × (wanted ≡ Some r) × (goal_of plan r ≡ Some (goal_at t))
     made_goal None over = by over.next
       where
-        by : IsChangeFor plan (Stage step.Make None) (Make (thing.Route p (goal_at t)) ∷ []) → (r : RouteRow) × (None ≡ Some r) × (goal_of plan r ≡ Some (goal_at t))
+        by : IsChangeFor plan (Stage step.Make None) (Make (thing.Route vrf.Default p (goal_at t)) ∷ []) → (r : RouteRow) × (None ≡ Some r) × (goal_of plan r ≡ Some (goal_at t))
         by (inl h) = elim h [ ]
         by (inr (o, h, there)) = elim h [ ]
     made_goal (Some r) over = (r, refl, by over.next)
       where
-        by : IsChangeFor plan (Stage step.Make (Some r)) (Make (thing.Route p (goal_at t)) ∷ []) → goal_of plan r ≡ Some (goal_at t)
-        by (inl h) = own_goal r (goal_at t) (thing.Route p (goal_at t)) h refl
+        by : IsChangeFor plan (Stage step.Make (Some r)) (Make (thing.Route vrf.Default p (goal_at t)) ∷ []) → goal_of plan r ≡ Some (goal_at t)
+        by (inl h) = own_goal r (goal_at t) (thing.Route vrf.Default p (goal_at t)) h refl
         by (inr (o, h, there)) = absurd (no_shared over.plans (goal_at t) o there)
 
-    set_like : (r : RouteRow) (like : Thing) → IsIn like (own_of plan (key.Route p) (Some (row.Route r))) → Resembles (thing.Route p (goal_at t)) like → goal_of plan r ≡ Some (goal_at t)
+    set_like : (r : RouteRow) (like : Thing) → IsIn like (own_of plan (key.Route p) (Some (row.Route r))) → Resembles (thing.Route vrf.Default p (goal_at t)) like → goal_of plan r ≡ Some (goal_at t)
     set_like r like h resembles = by resembles.same
       where
-        by : (thing.Route p (goal_at t) ≡ like) ⊎ IsSamePort (thing.Route p (goal_at t)) like → goal_of plan r ≡ Some (goal_at t)
+        by : (thing.Route vrf.Default p (goal_at t) ≡ like) ⊎ IsSamePort (thing.Route vrf.Default p (goal_at t)) like → goal_of plan r ≡ Some (goal_at t)
         by (inl same) = own_goal r (goal_at t) like h (sym same)
         by (inr port) = elim port [ ]
 
@@ -124,55 +120,55 @@ module _ (plan : Ports) (p : Prefix) where
     set_goal (Some r) over = (r, refl, set_like r over.sets.0 over.sets.1 over.sets.2)
 
     module _ (names : Names) (r : RouteRow) (x : To Vid) (to : PointsTo names r (goal_at t) x) where
-      pub next-make : (f : Operation) → f ≡ Stage step.Make (Some r) → IsOver plan f → IsNextOf plan names f (next.Call (call.Create (body.Route p x)))
-      next-make f is = subst (λ z. IsOver plan z → IsNextOf plan names z (next.Call (call.Create (body.Route p x)))) (sym is) by
+      pub next-make : (f : Operation) → f ≡ Stage step.Make (Some r) → IsOver plan f → IsNextOf plan names f (next.Call (call.Create (body.Route None p x)))
+      next-make f is = subst (λ z. IsOver plan z → IsNextOf plan names z (next.Call (call.Create (body.Route None p x)))) (sym is) by
         where
-          by : IsOver plan (Stage step.Make (Some r)) → IsNextOf plan names (Stage step.Make (Some r)) (next.Call (call.Create (body.Route p x)))
+          by : IsOver plan (Stage step.Make (Some r)) → IsNextOf plan names (Stage step.Make (Some r)) (next.Call (call.Create (body.Route None p x)))
           by over =
               let (q, has, at) = made_goal (Some r) over in
               let (i, there, same) = to-at plan names x over.plans r (goal_at t) (ap (goal_of plan) (same_Some r q has) ∙ at) to in (
-                Make (thing.Route p (goal_at t)),
+                Make (thing.Route vrf.Default p (goal_at t)),
                 [],
                 refl,
                 record {
-                  body = body.Route p x;
-                  of = record { first = i; second = i; first_at = there; second_at = no_second (HasVid plan names) (goal_at t) i; body_is = ap (body.Route p) same };
+                  body = body.Route None p x;
+                  of = record { first = i; second = i; first_at = there; second_at = tt; body_is = ap (body.Route None p) same };
                   is = refl;
                 },
               )
 
-      pub next-set : (f : Operation) → f ≡ Stage step.Set (Some r) → IsOver plan f → IsNextOf plan names f (next.Call (call.Set (entry.Route p) (attr.To x)))
-      next-set f is = subst (λ z. IsOver plan z → IsNextOf plan names z (next.Call (call.Set (entry.Route p) (attr.To x)))) (sym is) by
+      pub next-set : (f : Operation) → f ≡ Stage step.Set (Some r) → IsOver plan f → IsNextOf plan names f (next.Call (call.Set (entry.Route None p) (attr.To x)))
+      next-set f is = subst (λ z. IsOver plan z → IsNextOf plan names z (next.Call (call.Set (entry.Route None p) (attr.To x)))) (sym is) by
         where
-          by : IsOver plan (Stage step.Set (Some r)) → IsNextOf plan names (Stage step.Set (Some r)) (next.Call (call.Set (entry.Route p) (attr.To x)))
+          by : IsOver plan (Stage step.Set (Some r)) → IsNextOf plan names (Stage step.Set (Some r)) (next.Call (call.Set (entry.Route None p) (attr.To x)))
           by over =
               let (q, has, at) = set_goal (Some r) over in
               let (i, there, same) = to-at plan names x over.plans r (goal_at t) (ap (goal_of plan) (same_Some r q has) ∙ at) to in
               let (old, held, named) = over.next in
               let (g, was) = is_route old p named in (
-                Set (thing.Route p (goal_at t)),
+                Set (thing.Route vrf.Default p (goal_at t)),
                 [],
                 refl,
                 record {
                   old = old;
                   there = in-left old (own_of plan (key.Route p) (option_map row.Route applied)) (things_retired (option_map owner_for retires)) held;
                   same = named;
-                  entry = entry.Route p;
+                  entry = entry.Route None p;
                   of = route_entry p (HasVid plan names) old named;
                   attr = attr.To x;
-                  change = subst (λ z. IsChange (HasVid plan names) z (attr.To x) (thing.Route p (goal_at t))) (sym was) (goal_at t, i, there, same, refl);
+                  change = subst (λ z. IsChange (HasVid plan names) z (attr.To x) (thing.Route vrf.Default p (goal_at t))) (sym was) (goal_at t, i, there, same, refl);
                   is = refl;
                 },
               )
 
-    pub next-take : (names : Names) (wanted : Option RouteRow) (f : Operation) → f ≡ Stage step.Take wanted → IsOver plan f → IsNextOf plan names f (next.Call (call.Remove (entry.Route p)))
-    next-take names wanted f is = subst (λ z. IsOver plan z → IsNextOf plan names z (next.Call (call.Remove (entry.Route p)))) (sym is) by
+    pub next-take : (names : Names) (wanted : Option RouteRow) (f : Operation) → f ≡ Stage step.Take wanted → IsOver plan f → IsNextOf plan names f (next.Call (call.Remove (entry.Route None p)))
+    next-take names wanted f is = subst (λ z. IsOver plan z → IsNextOf plan names z (next.Call (call.Remove (entry.Route None p)))) (sym is) by
       where
-        by : IsOver plan (Stage step.Take wanted) → IsNextOf plan names (Stage step.Take wanted) (next.Call (call.Remove (entry.Route p)))
+        by : IsOver plan (Stage step.Take wanted) → IsNextOf plan names (Stage step.Take wanted) (next.Call (call.Remove (entry.Route None p)))
         by over =
             let (old, held, named) = over.next in (
-              Take (thing_name.Route p),
+              Take (thing_name.Route vrf.Default p),
               [],
               refl,
-              record { old = old; there = held; same = named; entry = entry.Route p; of = route_entry p (HasVid plan names) old named; is = refl },
+              record { old = old; there = held; same = named; entry = entry.Route None p; of = route_entry p (HasVid plan names) old named; is = refl },
             )

@@ -2,6 +2,7 @@
 use Rattle.std.proofs.Common.{◌≡◌, Bool, true, false, ◌&&◌, ◌||◌, List, [], ◌∷◌, Option, Some, None, option_map, if◌then◌else◌, refl, sym, ap, ap₂, subst, ◌∙◌}
 use Rattle.std.proofs.lemmas.Bool.{and_parts}
 use Rattle.swss_types.specs.declared.address.Prefix.{Prefix}
+use Rattle.swss_types.specs.declared.vrf.Vrf.TheVariants as vrf
 use Rattle.swss_types.specs.contracts.address.PrefixPartialEq.TheImpl as prefix_eq
 use Rattle.table_schema.specs.Plan.{Ports}
 use Rattle.table_schema.specs.declared.key.Key.TheVariants as key
@@ -16,7 +17,7 @@ use Rattle.sai_types.specs.declared.thing.Thing.TheVariants as thing
 use Rattle.row_layout.specs.Operations.{Change, Make, Set, make_all, own_changes, same_thing, set_all, take_all}
 use Rattle.row_layout.specs.Rows.{Owner, Group, from, goal_of}
 use Rattle.switch_machine.specs.Flights.{Fits}
-use Rattle.switch_machine.proofs.Equal.{thing-exact}
+use Rattle.sai_types.proofs.Equal.{thing-exact}
 use Rattle.ref_counts.specs.declared.name.Name.{Name}
 use Rattle.ref_counts.specs.declared.name.Name.TheVariants as name
 use Rattle.ref_counts.specs.declared.name.NameState.TheVariants as state
@@ -39,10 +40,10 @@ pub fit-goal : (plan : Ports) (p : Prefix) (o : Option RouteRow) → ((r : Row) 
 fit-goal plan p None fits = tt
 fit-goal plan p (Some r) fits = (fits (row.Route r) refl).1
 
-same_route : (p : Prefix) (a b : Goal) → same_thing (thing.Route p a) (thing.Route p b) ≡ goal_eq.ghosts.eq a b
-same_route p a b = ap (λ x. x && goal_eq.ghosts.eq a b) (and_parts (prefix_eq.ghosts.eq p p) (goal_eq.ghosts.eq a a) (equal_thing.laws-law.refl (thing.Route p a))).0
+same_route : (p : Prefix) (a b : Goal) → same_thing (thing.Route vrf.Default p a) (thing.Route vrf.Default p b) ≡ goal_eq.ghosts.eq a b
+same_route p a b = ap (λ x. x && goal_eq.ghosts.eq a b) (and_parts (prefix_eq.ghosts.eq p p) (goal_eq.ghosts.eq a a) (equal_thing.laws-law.refl (thing.Route vrf.Default p a))).0
 
-due_by_set : (p : Prefix) (g : Goal) (b : Bool) → (if b then [] else Set (thing.Route p g) ∷ []) ≡ route_due (if b then step.Ended else step.Set) p g
+due_by_set : (p : Prefix) (g : Goal) (b : Bool) → (if b then [] else Set (thing.Route vrf.Default p g) ∷ []) ≡ route_due (if b then step.Ended else step.Set) p g
 due_by_set p g true = refl
 due_by_set p g false = refl
 
@@ -51,11 +52,11 @@ module _ (plan : Ports) (p : Prefix) where
   pub own-due : (o n : Option RouteRow) (was target : Target) → HasGoal plan o → HasGoal plan n → IsTargetOf plan (key.Route p) (option_map row.Route o) was → IsTargetOf plan (key.Route p) (option_map row.Route n) target → own_changes plan (key.Route p) (option_map row.Route o) (option_map row.Route n) ≡ route_due (first_step (option_map row.Route o) (option_map row.Route n) was target) p (goal_at target)
   own-due None None was target a b of_was of_target = refl
   own-due None (Some r) was target a (g, is) of_was of_target =
-      ap (λ o. make_all (from o (λ g. thing.Route p g ∷ [])) []) is ∙ ap (λ g. Make (thing.Route p g) ∷ []) (sym (target-goal plan p r target g of_target is))
-  own-due (Some a) None was target (g, is) b of_was of_target = ap (λ o. take_all (from o (λ g. thing.Route p g ∷ [])) []) is
+      ap (λ o. make_all (from o (λ g. thing.Route vrf.Default p g ∷ [])) []) is ∙ ap (λ g. Make (thing.Route vrf.Default p g) ∷ []) (sym (target-goal plan p r target g of_target is))
+  own-due (Some a) None was target (g, is) b of_was of_target = ap (λ o. take_all (from o (λ g. thing.Route vrf.Default p g ∷ [])) []) is
   own-due (Some a) (Some r) was target (g, is) (h, to) of_was of_target =
-      ap₂ (λ x y. set_all (from x (λ g. thing.Route p g ∷ [])) (from y (λ g. thing.Route p g ∷ []))) is to
-      ∙ ap (λ b. if b then [] else Set (thing.Route p h) ∷ []) (same_route p g h)
+      ap₂ (λ x y. set_all (from x (λ g. thing.Route vrf.Default p g ∷ [])) (from y (λ g. thing.Route vrf.Default p g ∷ []))) is to
+      ∙ ap (λ b. if b then [] else Set (thing.Route vrf.Default p h) ∷ []) (same_route p g h)
       ∙ due_by_set p h (goal_eq.ghosts.eq g h)
       ∙ ap₂ (λ g h. route_due (if goal_eq.ghosts.eq g h then step.Ended else step.Set) p h) (sym (target-goal plan p a was g of_was is)) (sym (target-goal plan p r target h of_target to))
 
@@ -65,20 +66,20 @@ module _ (plan : Ports) (p : Prefix) where
   left_none (goal.Via hop) = refl
   left_none (goal.Group hops) = ap (λ b. if b || false then None else Some (Group hops)) (equal_thing.laws-law.refl (thing.Group hops))
 
-  set_none : (g h : Goal) (b : Bool) → same_thing (thing.Route p g) (thing.Route p h) ≡ b → (if b then [] else Set (thing.Route p h) ∷ []) ≡ [] → g ≡ h
-  set_none g h true same none = goal-same p g h (thing-exact (thing.Route p g) (thing.Route p h) same)
+  set_none : (g h : Goal) (b : Bool) → same_thing (thing.Route vrf.Default p g) (thing.Route vrf.Default p h) ≡ b → (if b then [] else Set (thing.Route vrf.Default p h) ∷ []) ≡ [] → g ≡ h
+  set_none g h true same none = goal-same p g h (thing-exact (thing.Route vrf.Default p g) (thing.Route vrf.Default p h) same)
   set_none g h false same none = absurd cc
 
   -- where nothing is due nothing is left
   pub none-left : (o n : Option RouteRow) → HasGoal plan o → HasGoal plan n → own_changes plan (key.Route p) (option_map row.Route o) (option_map row.Route n) ≡ [] → leaving plan (key.Route p) (option_map row.Route o) (option_map row.Route n) ≡ None
   none-left None None a b none = refl
   none-left None (Some r) a b none = refl
-  none-left (Some a) None (g, is) b none = absurd (made_some (sym (ap (λ o. take_all (from o (λ g. thing.Route p g ∷ [])) []) is) ∙ none))
+  none-left (Some a) None (g, is) b none = absurd (made_some (sym (ap (λ o. take_all (from o (λ g. thing.Route vrf.Default p g ∷ [])) []) is) ∙ none))
     where
-      made_some : take_all (thing.Route p g ∷ []) [] ≡ [] → ⊥
+      made_some : take_all (thing.Route vrf.Default p g ∷ []) [] ≡ [] → ⊥
       made_some h = cc
   none-left (Some a) (Some r) (g, is) (h, to) none =
-      let same = set_none g h (same_thing (thing.Route p g) (thing.Route p h)) refl (sym (ap₂ (λ x y. set_all (from x (λ g. thing.Route p g ∷ [])) (from y (λ g. thing.Route p g ∷ []))) is to) ∙ none) in
+      let same = set_none g h (same_thing (thing.Route vrf.Default p g) (thing.Route vrf.Default p h)) refl (sym (ap₂ (λ x y. set_all (from x (λ g. thing.Route vrf.Default p g ∷ [])) (from y (λ g. thing.Route vrf.Default p g ∷ []))) is to) ∙ none) in
       ap₂ first_left (uses-goal plan r h to) (uses-goal plan a g is) ∙ subst (λ z. first_left (goal_uses h) (goal_uses z) ≡ None) (sym same) (left_none h)
 
 -- a group is built by an operation of its own
@@ -90,4 +91,4 @@ built-apart names us group own is groups = ap (λ us. built_here (first_absent n
     by (Some (name.Group hops)) groups = elim (state_of names (name.Group hops)) as (λ s. built_here (absent_or (Group hops) s None) own ≡ own) [ state.Absent ↦ refl | state.Live ↦ refl | state.Building w ↦ refl | state.Retiring w ↦ refl ]
     by (Some (name.Row k)) groups = elim groups [ ]
     by (Some (name.BridgePort lane)) groups = elim groups [ ]
-    by (Some (name.Own ip)) groups = elim groups [ ]
+    by (Some (name.Own v ip)) groups = elim groups [ ]

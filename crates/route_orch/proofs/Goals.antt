@@ -2,6 +2,7 @@
 use Rattle.std.proofs.Common.{◌≡◌, inl, inr, ℕ, List, [], ◌∷◌, Option, Some, None, option_map, refl, sym, ap, subst, ◌∙◌}
 use Rattle.std.proofs.lemmas.Option.{none-some, same_Some}
 use Rattle.swss_types.specs.declared.address.Prefix.{Prefix}
+use Rattle.swss_types.specs.declared.vrf.Vrf.TheVariants as vrf
 use Rattle.swss_types.proofs.Proper.{mapped}
 use Rattle.table_schema.specs.Plan.{IsPlan, Ports}
 use Rattle.table_schema.specs.declared.key.Key.TheVariants as key
@@ -75,7 +76,7 @@ goal_kept (Some (name.Group hops)) w (goal.Direct b) uses groups own = cc
 goal_kept (Some (name.Group hops)) w (goal.Via hop) uses groups own = cc
 goal_kept (Some (name.Row k)) w g uses groups own = elim groups [ ]
 goal_kept (Some (name.BridgePort lane)) w g uses groups own = elim groups [ ]
-goal_kept (Some (name.Own ip)) w g uses groups own = elim groups [ ]
+goal_kept (Some (name.Own v ip)) w g uses groups own = elim groups [ ]
 
 way_by : (plan : Ports) (h : RowHop × ℕ) (hs : List (RowHop × ℕ)) (o : Option (List WHop)) (g : Goal) → hops_of plan (h ∷ hs) ≡ o → goal_to o ≡ Some g → group_by o ≡ [] → way_goal (row_way plan (route.Hops (h ∷ hs))) ≡ g
 way_by plan h hs None g at e none = absurd (none-some g e)
@@ -98,7 +99,7 @@ target-goal plan p r t g is e =
     (λ none. ap way_goal (is.way r refl) ∙ way_of_goal plan r g e (is.shares ∙ ap owners_of none))
 
 -- equal routes have equal goals
-pub goal-same : (p : Prefix) (g h : Goal) → thing.Route p g ≡ thing.Route p h → g ≡ h
+pub goal-same : (p : Prefix) (g h : Goal) → thing.Route vrf.Default p g ≡ thing.Route vrf.Default p h → g ≡ h
 goal-same p g h is = cc
 
 -- ---- the target of a call

@@ -1,6 +1,7 @@
 -- The operation of a route, as far as it is made: the route is made, or set to its new target, or removed. Own.
 use Rattle.std.specs.Prelude.{◌≡◌, ℕ, Bool, true, List, [], ◌∷◌, length, Option, Some, None, option_map, if◌then◌else◌}
 use Rattle.swss_types.specs.declared.address.Prefix.{Prefix}
+use Rattle.swss_types.specs.declared.vrf.Vrf.TheVariants as vrf
 use Rattle.table_schema.specs.Plan.{Ports}
 use Rattle.table_schema.specs.declared.key.Key.{Key}
 use Rattle.table_schema.specs.declared.key.Key.TheVariants as key
@@ -27,14 +28,14 @@ use Rattle.route_orch.specs.declared.target.Target.{Target}
 
 -- the places for a group that is built, and for a route where none is applied
 abbrev pub places_needed : Bool → Option Name → Bool → List ℕ
-places_needed true (Some (name.Group hops)) applied = 0 ∷ 0 ∷ 0 ∷ 0 ∷ 0 ∷ 0 ∷ 0 ∷ 0 ∷ 1 ∷ length hops ∷ (if applied then 0 else 1) ∷ []
-places_needed builds group applied = 0 ∷ 0 ∷ 0 ∷ 0 ∷ 0 ∷ 0 ∷ 0 ∷ 0 ∷ 0 ∷ 0 ∷ (if applied then 0 else 1) ∷ []
+places_needed true (Some (name.Group hops)) applied = 0 ∷ 0 ∷ 0 ∷ 0 ∷ 0 ∷ 0 ∷ 0 ∷ 0 ∷ 0 ∷ 1 ∷ length hops ∷ (if applied then 0 else 1) ∷ []
+places_needed builds group applied = 0 ∷ 0 ∷ 0 ∷ 0 ∷ 0 ∷ 0 ∷ 0 ∷ 0 ∷ 0 ∷ 0 ∷ 0 ∷ (if applied then 0 else 1) ∷ []
 
 -- the change that a step is
 abbrev pub route_due : RouteStep → Prefix → Goal → List Change
-route_due step.Make prefix g = Make (thing.Route prefix g) ∷ []
-route_due step.Set prefix g = Set (thing.Route prefix g) ∷ []
-route_due step.Take prefix g = Take (thing_name.Route prefix) ∷ []
+route_due step.Make prefix g = Make (thing.Route vrf.Default prefix g) ∷ []
+route_due step.Set prefix g = Set (thing.Route vrf.Default prefix g) ∷ []
+route_due step.Take prefix g = Take (thing_name.Route vrf.Default prefix) ∷ []
 route_due step.Changed prefix g = []
 route_due step.Ended prefix g = []
 

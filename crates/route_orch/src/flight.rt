@@ -123,14 +123,15 @@ impl RouteFlight {
         let body = self.body.as_ref();
         match (body.step, &self.wanted) {
             (RouteStep::Make, Some(row)) => Ok(Next::Call(Call::Create(Body::Route {
+                vr: None,
                 prefix: body.prefix,
                 to: body.target.to(reg, row),
             }))),
             (RouteStep::Set, Some(row)) => {
                 let to = body.target.to(reg, row);
-                Ok(Next::Call(Call::Set(Entry::Route(body.prefix), Attr::To(to))))
+                Ok(Next::Call(Call::Set(Entry::Route(None, body.prefix), Attr::To(to))))
             }
-            (RouteStep::Take, _) => Ok(Next::Call(Call::Remove(Entry::Route(body.prefix)))),
+            (RouteStep::Take, _) => Ok(Next::Call(Call::Remove(Entry::Route(None, body.prefix)))),
             (RouteStep::Make | RouteStep::Set, None) => Ok(Next::End),
             (RouteStep::Changed | RouteStep::Ended, _) => Ok(Next::End),
         }

@@ -89,9 +89,10 @@ fn places_needed(builds: bool, group: &Option<Name>, applied: bool) -> KindCount
     let routes = if applied { 0 } else { 1 };
     match group {
         Some(Name::Group(hops)) if builds => {
-            [0, 0, 0, 0, 0, 0, 0, 0, 1, hops.items().len() as u64, routes]
+            let members = hops.items().len() as u64;
+            [0, 0, 0, 0, 0, 0, 0, 0, 0, 1, members, routes]
         }
-        _ => [0, 0, 0, 0, 0, 0, 0, 0, 0, 0, routes],
+        _ => [0, 0, 0, 0, 0, 0, 0, 0, 0, 0, 0, routes],
     }
 }
 

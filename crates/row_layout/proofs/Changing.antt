@@ -2,8 +2,10 @@
 use Rattle.std.proofs.Common.{◌≡◌, inl, inr, Bool, true, ◌||◌, List, [], ◌∷◌, ◌++◌, Some, if◌then◌else◌, refl, sym, ap, ◌∙◌}
 use Rattle.std.specs.Cmp.{eq_by_cmp_equiv}
 use Rattle.std.specs.List.{list_any}
-use Rattle.std.proofs.lemmas.Bool.{eq-eqb, or_right}
+use Rattle.std.proofs.lemmas.Bool.{and_from, eq-eqb, or_right}
+use Rattle.swss_types.specs.Vrf.{same_vrf}
 use Rattle.swss_types.specs.contracts.address.IpEq.TheImpl.Laws as equal_ip
+use Rattle.swss_types.proofs.Routers.{vrf-refl}
 use Rattle.table_schema.specs.Plan.{Ports}
 use Rattle.table_schema.specs.declared.key.Key.{Key}
 use Rattle.table_schema.specs.declared.key.Key.TheVariants as key
@@ -14,6 +16,7 @@ use Rattle.sai_types.specs.contracts.thing.ThingEq.TheImpl.Laws as equal_thing
 use Rattle.sai_types.specs.declared.thing.Thing.{Thing}
 use Rattle.sai_types.specs.declared.thing.Thing.TheVariants as thing
 use Rattle.sai_types.specs.Alike.{IsIn}
+use Rattle.sai_types.specs.Refusal.{same_ip}
 use Rattle.row_layout.specs.Operations.{Change, Set, changes_of, own_sets, build_all, thing_of_port, retire_all, same_owner, set_all, set_to, unshared}
 use Rattle.row_layout.specs.Rows.{Owner, OfRow, Bridge, Own, Group, own_things}
 use Rattle.row_layout.specs.Shared.{uses}
@@ -34,7 +37,7 @@ own_same plan k r = set_same (own_things plan k r)
 owner_same : (o : Owner) → same_owner o o ≡ true
 owner_same (OfRow k) = (eq_by_cmp_equiv key_total).refl k
 owner_same (Bridge lane) = eq-eqb lane lane refl
-owner_same (Own ip) = equal_ip.laws-law.refl ip
+owner_same (Own v ip) = and_from (same_vrf v v) (same_ip ip ip) (vrf-refl v) (equal_ip.laws-law.refl ip)
 owner_same (Group hops) = equal_thing.laws-law.refl (thing.Group hops)
 
 pub among : (o : Owner) (os : List Owner) → IsIn o os → list_any (same_owner o) os ≡ true

@@ -8,6 +8,7 @@ use Rattle.std.proofs.lemmas.Option.{same_Some}
 use Rattle.swss_types.specs.Lanes.{IsLaneList}
 use Rattle.swss_types.specs.declared.interface.IfName.{IfName}
 use Rattle.swss_types.specs.declared.interface.IfName.TheVariants as on
+use Rattle.swss_types.specs.declared.vrf.Vrf.TheVariants as vrf
 use Rattle.swss_types.proofs.Proper.{mapped}
 use Rattle.table_schema.specs.Plan.{Ports, IsPlan, HaveOwnLanes, has, has_lane, lanes_in_plan, port_named}
 use Rattle.table_schema.specs.declared.key.Key.{Key}
@@ -71,14 +72,14 @@ module _ (plan : Ports) (is : IsPlan plan) where
       only (IsOwn (key.Member vlan port)) t (thing.VlanMember vlan m.0 tagging) (ap (option_map (λ p. owner.OfRow (key.Member vlan p))) (port_by port m.0 m.1)) m.2
   own (key.Intf n) row.Intf t planned h =
       let m = from_in (base_of plan n) _ t h in
-      only (IsOwn (key.Intf n)) t (thing.Rif m.0) (ap (option_map (λ x. owner.OfRow (key.Intf x))) (interface_by n m.0 m.1)) m.2
+      only (IsOwn (key.Intf n)) t (thing.Rif m.0 vrf.Default) (ap (option_map (λ x. owner.OfRow (key.Intf x))) (interface_by n m.0 m.1)) m.2
   own (key.Neigh n ip) (row.Neigh mac) t planned h =
       let m = from_in (base_of plan n) _ t h in
       let named = ap (option_map (λ x. owner.OfRow (key.Neigh x ip))) (interface_by n m.0 m.1) in
       two (IsOwn (key.Neigh n ip)) t (thing.Neighbor (record { on = m.0; ip = ip }) mac) (thing.NextHop (record { on = m.0; ip = ip })) named named m.2
   own (key.Route prefix) (row.Route r) t planned h =
       let m = from_in (goal_of plan r) _ t h in
-      only (IsOwn (key.Route prefix)) t (thing.Route prefix m.0) refl m.2
+      only (IsOwn (key.Route prefix)) t (thing.Route vrf.Default prefix m.0) refl m.2
   own _ _ t planned h = elim h [ ]
 
   member_own : (hops some : List WHop) (t : Thing) → IsIn t (members_of hops some) → owner_of plan (name_of t) ≡ Some (owner.Group hops)
@@ -90,14 +91,14 @@ module _ (plan : Ports) (is : IsPlan plan) where
   pub shared-own : (o : Owner) (t : Thing) → IsIn t (shared_things o) → owner_of plan (name_of t) ≡ Some o
   shared-own (owner.OfRow k) t h = elim h [ ]
   shared-own (owner.Bridge lane) t h = only (λ z. owner_of plan (name_of z) ≡ Some (owner.Bridge lane)) t _ refl h
-  shared-own (owner.Own ip) t h = only (λ z. owner_of plan (name_of z) ≡ Some (owner.Own ip)) t _ refl h
+  shared-own (owner.Own v ip) t h = only (λ z. owner_of plan (name_of z) ≡ Some (owner.Own v ip)) t _ refl h
   shared-own (owner.Group hops) t (inl same) = ap (λ z. owner_of plan (name_of z)) same
   shared-own (owner.Group hops) t (inr h) = member_own hops hops t h
 
   pub held-own : (o : Owner) (t : Thing) → CanHold plan o t → owner_of plan (name_of t) ≡ Some o
   held-own (owner.OfRow k) t (r, planned, h) = own k r t planned h
   held-own (owner.Bridge lane) t h = shared-own (owner.Bridge lane) t h
-  held-own (owner.Own ip) t h = shared-own (owner.Own ip) t h
+  held-own (owner.Own v ip) t h = shared-own (owner.Own v ip) t h
   held-own (owner.Group hops) t h = shared-own (owner.Group hops) t h
 
   -- two owners never hold one name

@@ -4,6 +4,7 @@ use Rattle.swss_types.specs.declared.address.Ip.{Ip}
 use Rattle.swss_types.specs.declared.address.Prefix.{Prefix}
 use Rattle.swss_types.specs.declared.interface.IfName.{IfName}
 use Rattle.swss_types.specs.declared.interface.IfName.TheVariants as name
+use Rattle.swss_types.specs.declared.vrf.Vrf.TheVariants as vrf
 use Rattle.table_schema.specs.Plan.{Ports}
 use Rattle.table_schema.specs.declared.key.Key.{Key}
 use Rattle.table_schema.specs.declared.key.Key.TheVariants as key
@@ -72,10 +73,10 @@ member_split vlan t (Some lane) = with_one (t lane ∷ []) (thing.BridgePort lan
     shared x (inr h) = elim h [ ]
 
 -- an own address is what its row uses
-address_alone : (ip : Ip) → Splits (thing.Own ip ∷ []) [] (Own ip ∷ [])
-address_alone ip = with_one [] (thing.Own ip ∷ []) (Own ip) (λ x h. inl h) (λ x h. h) (λ x h. elim h [ ])
+address_alone : (ip : Ip) → Splits (thing.Own vrf.Default ip ∷ []) [] (Own vrf.Default ip ∷ [])
+address_alone ip = with_one [] (thing.Own vrf.Default ip ∷ []) (Own vrf.Default ip) (λ x h. inl h) (λ x h. h) (λ x h. elim h [ ])
 
-lane_address : (ip : Ip) (o : Option ℕ) → Splits (from_lane (λ lane. thing.Own ip ∷ []) o) [] (from o (λ lane. Own ip ∷ []))
+lane_address : (ip : Ip) (o : Option ℕ) → Splits (from_lane (λ lane. thing.Own vrf.Default ip ∷ []) o) [] (from o (λ lane. Own vrf.Default ip ∷ []))
 lane_address ip None = all_own []
 lane_address ip (Some lane) = address_alone ip
 
@@ -84,21 +85,21 @@ address_split plan (name.Ethernet port) ip = lane_address ip (lane_of plan port)
 address_split plan (name.Vlan vlan) ip = address_alone ip
 address_split plan (name.Loopback number) ip = address_alone ip
 
-group_split : (prefix : Prefix) (group : List WHop) → Splits (thing.Route prefix (goal.Group group) ∷ thing.Group group ∷ members_of group group) (thing.Route prefix (goal.Group group) ∷ []) (Group group ∷ [])
-group_split prefix group = with_one (thing.Route prefix (goal.Group group) ∷ []) (thing.Route prefix (goal.Group group) ∷ thing.Group group ∷ members_of group group) (Group group) parts (λ x h. inr h) mine
+group_split : (prefix : Prefix) (group : List WHop) → Splits (thing.Route vrf.Default prefix (goal.Group group) ∷ thing.Group group ∷ members_of group group) (thing.Route vrf.Default prefix (goal.Group group) ∷ []) (Group group ∷ [])
+group_split prefix group = with_one (thing.Route vrf.Default prefix (goal.Group group) ∷ []) (thing.Route vrf.Default prefix (goal.Group group) ∷ thing.Group group ∷ members_of group group) (Group group) parts (λ x h. inr h) mine
   where
-    parts : (x : Thing) → IsIn x (thing.Route prefix (goal.Group group) ∷ thing.Group group ∷ members_of group group) → IsIn x (thing.Group group ∷ members_of group group) ⊎ IsIn x (thing.Route prefix (goal.Group group) ∷ [])
+    parts : (x : Thing) → IsIn x (thing.Route vrf.Default prefix (goal.Group group) ∷ thing.Group group ∷ members_of group group) → IsIn x (thing.Group group ∷ members_of group group) ⊎ IsIn x (thing.Route vrf.Default prefix (goal.Group group) ∷ [])
     parts x (inl is) = inr (inl is)
     parts x (inr h) = inl h
 
-    mine : (x : Thing) → IsIn x (thing.Route prefix (goal.Group group) ∷ []) → IsIn x (thing.Route prefix (goal.Group group) ∷ thing.Group group ∷ members_of group group)
+    mine : (x : Thing) → IsIn x (thing.Route vrf.Default prefix (goal.Group group) ∷ []) → IsIn x (thing.Route vrf.Default prefix (goal.Group group) ∷ thing.Group group ∷ members_of group group)
     mine x (inl is) = inl is
     mine x (inr h) = elim h [ ]
 
-from_hops_split : (prefix : Prefix) (o : Option (List WHop)) → Splits (from_hops prefix o) (from (goal_to o) (λ g. thing.Route prefix g ∷ [])) (group_by o)
+from_hops_split : (prefix : Prefix) (o : Option (List WHop)) → Splits (from_hops prefix o) (from (goal_to o) (λ g. thing.Route vrf.Default prefix g ∷ [])) (group_by o)
 from_hops_split prefix None = all_own []
 from_hops_split prefix (Some []) = all_own []
-from_hops_split prefix (Some (hop ∷ [])) = all_own (thing.Route prefix (goal.Via hop.hop) ∷ [])
+from_hops_split prefix (Some (hop ∷ [])) = all_own (thing.Route vrf.Default prefix (goal.Via hop.hop) ∷ [])
 from_hops_split prefix (Some (hop ∷ next ∷ more)) = group_split prefix (hop ∷ next ∷ more)
 
 -- what a row stands for on the chip is its own, and what it uses
@@ -109,11 +110,11 @@ things-split plan (key.Member v p) (row.Member tagging) = member_split v (λ lan
 things-split plan (key.Intf n) row.Intf = base_own _ (base_of plan n)
 things-split plan (key.Addr n ip len) row.Addr = address_split plan n ip
 things-split plan (key.Neigh n ip) (row.Neigh mac) = base_own _ (base_of plan n)
-things-split plan (key.Route prefix) (row.Route route.Drop) = all_own (thing.Route prefix goal.Drop ∷ [])
+things-split plan (key.Route prefix) (row.Route route.Drop) = all_own (thing.Route vrf.Default prefix goal.Drop ∷ [])
 things-split plan (key.Route prefix) (row.Route (route.Direct n)) = direct (base_of plan n)
   where
-    direct : (o : Option Base) → Splits (from_base (λ b. thing.Route prefix (goal.Direct b) ∷ []) o) (from (option_map goal.Direct o) (λ g. thing.Route prefix g ∷ [])) []
+    direct : (o : Option Base) → Splits (from_base (λ b. thing.Route vrf.Default prefix (goal.Direct b) ∷ []) o) (from (option_map goal.Direct o) (λ g. thing.Route vrf.Default prefix g ∷ [])) []
     direct None = all_own []
-    direct (Some b) = all_own (thing.Route prefix (goal.Direct b) ∷ [])
+    direct (Some b) = all_own (thing.Route vrf.Default prefix (goal.Direct b) ∷ [])
 things-split plan (key.Route prefix) (row.Route (route.Hops hops)) = from_hops_split prefix (hops_of plan hops)
 things-split plan _ _ = all_own []

@@ -5,6 +5,7 @@ use Rattle.swss_types.specs.declared.address.Ip.{Ip}
 use Rattle.swss_types.specs.declared.address.Prefix.{Prefix}
 use Rattle.swss_types.specs.declared.interface.IfName.TheVariants as on
 use Rattle.swss_types.specs.declared.tagging.Tagging.TheVariants.{Untagged}
+use Rattle.swss_types.specs.declared.vrf.Vrf.TheVariants as vrf
 use Rattle.table_schema.specs.Plan.{Ports}
 use Rattle.table_schema.specs.declared.key.Key.TheVariants as key
 use Rattle.table_schema.specs.declared.row.Row.{Row}
@@ -51,7 +52,7 @@ last_member_goes = refl
 abbrev ten : ℕ → Ip
 ten n = record { family = V4; bits = 167772160 + n }
 
-first_address : changes_of ports (key.Addr (on.Ethernet 0) (ten 1) 24) None (Some row.Addr) alone ≡ Make (thing.Own (ten 1)) ∷ []
+first_address : changes_of ports (key.Addr (on.Ethernet 0) (ten 1) 24) None (Some row.Addr) alone ≡ Make (thing.Own vrf.Default (ten 1)) ∷ []
 first_address = refl
 
 second_address : changes_of ports (key.Addr (on.Vlan 10) (ten 1) 31) None (Some row.Addr) shared ≡ []
@@ -60,7 +61,7 @@ second_address = refl
 address_goes : changes_of ports (key.Addr (on.Ethernet 0) (ten 1) 24) (Some row.Addr) None shared ≡ []
 address_goes = refl
 
-last_address_goes : changes_of ports (key.Addr (on.Vlan 10) (ten 1) 31) (Some row.Addr) None alone ≡ Take (name.Own (ten 1)) ∷ []
+last_address_goes : changes_of ports (key.Addr (on.Vlan 10) (ten 1) 31) (Some row.Addr) None alone ≡ Take (name.Own vrf.Default (ten 1)) ∷ []
 last_address_goes = refl
 
 -- ---- a group that two routes share
@@ -81,14 +82,14 @@ other = record { hop = record { on = base.Port 4; ip = ten 3 }; weight = 1 }
 abbrev group : List WHop
 group = one ∷ other ∷ []
 
-first_route : changes_of ports (key.Route (net 256)) None (Some hops) alone ≡ Make (thing.Group group) ∷ Make (thing.GroupMember group one) ∷ Make (thing.GroupMember group other) ∷ Make (thing.Route (net 256) (goal.Group group)) ∷ []
+first_route : changes_of ports (key.Route (net 256)) None (Some hops) alone ≡ Make (thing.Group group) ∷ Make (thing.GroupMember group one) ∷ Make (thing.GroupMember group other) ∷ Make (thing.Route vrf.Default (net 256) (goal.Group group)) ∷ []
 first_route = refl
 
-second_route : changes_of ports (key.Route (net 512)) None (Some hops) shared ≡ Make (thing.Route (net 512) (goal.Group group)) ∷ []
+second_route : changes_of ports (key.Route (net 512)) None (Some hops) shared ≡ Make (thing.Route vrf.Default (net 512) (goal.Group group)) ∷ []
 second_route = refl
 
-route_turns : changes_of ports (key.Route (net 256)) (Some hops) (Some (row.Route route.Drop)) shared ≡ Set (thing.Route (net 256) goal.Drop) ∷ []
+route_turns : changes_of ports (key.Route (net 256)) (Some hops) (Some (row.Route route.Drop)) shared ≡ Set (thing.Route vrf.Default (net 256) goal.Drop) ∷ []
 route_turns = refl
 
-last_route_goes : changes_of ports (key.Route (net 512)) (Some hops) None alone ≡ Take (name.Route (net 512)) ∷ Take (name.GroupMember group one) ∷ Take (name.GroupMember group other) ∷ Take (name.Group group) ∷ []
+last_route_goes : changes_of ports (key.Route (net 512)) (Some hops) None alone ≡ Take (name.Route vrf.Default (net 512)) ∷ Take (name.GroupMember group one) ∷ Take (name.GroupMember group other) ∷ Take (name.Group group) ∷ []
 last_route_goes = refl

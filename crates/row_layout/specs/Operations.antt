@@ -1,7 +1,8 @@
 -- The changes of each operation, in order. The orders of calls are those of SONiC's orchestration agent; own: equal values make no call.
-use Rattle.std.specs.Prelude.{ℕ, Bool, false, ◌==◌, ◌||◌, List, [], ◌∷◌, ◌++◌, Option, Some, None, if◌then◌else◌}
+use Rattle.std.specs.Prelude.{ℕ, Bool, false, ◌==◌, ◌||◌, ◌&&◌, List, [], ◌∷◌, ◌++◌, Option, Some, None, if◌then◌else◌}
 use Rattle.std.specs.BTreeMap.{is_at}
 use Rattle.std.specs.List.{list_any}
+use Rattle.swss_types.specs.Vrf.{same_vrf}
 use Rattle.table_schema.specs.Key.{key_cmp}
 use Rattle.table_schema.specs.Plan.{Ports}
 use Rattle.table_schema.specs.declared.key.Key.{Key}
@@ -29,7 +30,7 @@ same_thing = thing_eq.ghosts.eq
 abbrev pub same_owner : Owner → Owner → Bool
 same_owner (OfRow k) (OfRow q) = is_at (key_cmp k) q
 same_owner (Bridge a) (Bridge b) = a == b
-same_owner (Own a) (Own b) = same_ip a b
+same_owner (Own v a) (Own w b) = same_vrf v w && same_ip a b
 same_owner (Group a) (Group b) = same_thing (thing.Group a) (thing.Group b)
 same_owner _ _ = false
 

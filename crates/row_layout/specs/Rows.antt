@@ -3,6 +3,8 @@ use Rattle.std.specs.Prelude.{◌≡◌, ℕ, List, [], ◌∷◌, Option, Some,
 use Rattle.swss_types.specs.declared.address.Ip.{Ip}
 use Rattle.swss_types.specs.declared.interface.IfName.{IfName}
 use Rattle.swss_types.specs.declared.interface.IfName.TheVariants as on
+use Rattle.swss_types.specs.declared.vrf.Vrf.{Vrf}
+use Rattle.swss_types.specs.declared.vrf.Vrf.TheVariants as vrf
 use Rattle.table_schema.specs.Plan.{Ports, lanes_in_plan, port_named}
 use Rattle.table_schema.specs.declared.key.Key.{Key}
 use Rattle.table_schema.specs.declared.key.Key.TheVariants as key
@@ -25,7 +27,7 @@ use Rattle.sai_types.specs.Names as name
 pub data Owner : Type 0 where
   OfRow : Key → Owner
   Bridge : ℕ → Owner
-  Own : Ip → Owner
+  Own : Vrf → Ip → Owner
   Group : List WHop → Owner
 
 -- the name of the interface on a base
@@ -33,19 +35,20 @@ abbrev pub interface_on : Ports → Base → Option IfName
 interface_on plan (base.Port lane) = option_map on.Ethernet (port_named plan lane)
 interface_on plan (base.Vlan vlan) = Some (on.Vlan vlan)
 
--- the owner of what has this name
+-- the owner of what has this name: rows make no virtual router, and routes in the default one alone
 abbrev pub owner_of : Ports → ThingName → Option Owner
 owner_of plan (name.Port lane) = option_map (λ p. OfRow (key.Port p)) (port_named plan lane)
 owner_of plan (name.Vlan vlan) = Some (OfRow (key.Vlan vlan))
+owner_of plan (name.VirtualRouter label) = None
 owner_of plan (name.BridgePort lane) = Some (Bridge lane)
 owner_of plan (name.VlanMember vlan lane) = option_map (λ p. OfRow (key.Member vlan p)) (port_named plan lane)
 owner_of plan (name.Rif b) = option_map (λ n. OfRow (key.Intf n)) (interface_on plan b)
-owner_of plan (name.Own ip) = Some (Own ip)
+owner_of plan (name.Own v ip) = Some (Own v ip)
 owner_of plan (name.Neighbor hop) = option_map (λ n. OfRow (key.Neigh n hop.ip)) (interface_on plan hop.on)
 owner_of plan (name.NextHop hop) = option_map (λ n. OfRow (key.Neigh n hop.ip)) (interface_on plan hop.on)
 owner_of plan (name.Group hops) = Some (Group hops)
 owner_of plan (name.GroupMember hops hop) = Some (Group hops)
-owner_of plan (name.Route prefix) = Some (OfRow (key.Route prefix))
+owner_of plan (name.Route v prefix) = Some (OfRow (key.Route prefix))
 
 -- where a route's row points
 abbrev pub goal_to : Option (List WHop) → Option Goal
@@ -68,9 +71,9 @@ abbrev pub own_things : Ports → Key → Row → List Thing
 own_things plan (key.Port port) (row.Port r) = from (lane_of plan port) (λ lane. thing.Port (record { lanes = r.lanes; speed = r.speed; mtu = r.mtu; up = r.up }) ∷ [])
 own_things plan (key.Vlan vlan) row.Vlan = thing.Vlan vlan ∷ []
 own_things plan (key.Member vlan port) (row.Member tagging) = from (lane_of plan port) (λ lane. thing.VlanMember vlan lane tagging ∷ [])
-own_things plan (key.Intf n) row.Intf = from (base_of plan n) (λ b. thing.Rif b ∷ [])
+own_things plan (key.Intf n) row.Intf = from (base_of plan n) (λ b. thing.Rif b vrf.Default ∷ [])
 own_things plan (key.Neigh n ip) (row.Neigh mac) = from (base_of plan n) (λ b. thing.Neighbor (record { on = b; ip = ip }) mac ∷ thing.NextHop (record { on = b; ip = ip }) ∷ [])
-own_things plan (key.Route prefix) (row.Route r) = from (goal_of plan r) (λ g. thing.Route prefix g ∷ [])
+own_things plan (key.Route prefix) (row.Route r) = from (goal_of plan r) (λ g. thing.Route vrf.Default prefix g ∷ [])
 own_things plan _ _ = []
 
 -- the row of a port has the lanes that the plan gives the port

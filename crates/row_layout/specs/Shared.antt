@@ -3,6 +3,7 @@ use Rattle.std.specs.Prelude.{◌⊎◌, List, [], ◌∷◌, Option, Some, None
 use Rattle.swss_types.specs.declared.address.Ip.{Ip}
 use Rattle.swss_types.specs.declared.interface.IfName.{IfName}
 use Rattle.swss_types.specs.declared.interface.IfName.TheVariants as name
+use Rattle.swss_types.specs.declared.vrf.Vrf.TheVariants as vrf
 use Rattle.table_schema.specs.Plan.{Ports}
 use Rattle.table_schema.specs.declared.key.Key.{Key}
 use Rattle.table_schema.specs.declared.key.Key.TheVariants as key
@@ -21,7 +22,7 @@ use Rattle.row_layout.specs.Rows.{Owner, OfRow, Bridge, Own, Group, IsPlanned, f
 abbrev pub shared_things : Owner → List Thing
 shared_things (OfRow k) = []
 shared_things (Bridge lane) = thing.BridgePort lane ∷ []
-shared_things (Own ip) = thing.Own ip ∷ []
+shared_things (Own v ip) = thing.Own v ip ∷ []
 shared_things (Group hops) = thing.Group hops ∷ members_of hops hops
 
 abbrev pub group_by : Option (List WHop) → List Owner
@@ -35,11 +36,11 @@ route_uses plan route.Drop = []
 route_uses plan (route.Direct n) = []
 route_uses plan (route.Hops hops) = group_by (hops_of plan hops)
 
--- the own address of an interface: none where its port is not in the plan
+-- the own address of an interface, in the default router: none where its port is not in the plan
 abbrev pub address_uses : Ports → IfName → Ip → List Owner
-address_uses plan (name.Ethernet port) ip = from (lane_of plan port) (λ lane. Own ip ∷ [])
-address_uses plan (name.Vlan vlan) ip = Own ip ∷ []
-address_uses plan (name.Loopback number) ip = Own ip ∷ []
+address_uses plan (name.Ethernet port) ip = from (lane_of plan port) (λ lane. Own vrf.Default ip ∷ [])
+address_uses plan (name.Vlan vlan) ip = Own vrf.Default ip ∷ []
+address_uses plan (name.Loopback number) ip = Own vrf.Default ip ∷ []
 
 -- what a row uses with others
 abbrev pub uses : Ports → Key → Row → List Owner

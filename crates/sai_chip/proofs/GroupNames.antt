@@ -12,14 +12,14 @@ use Rattle.sai_types.specs.declared.body.Entry.{Entry}
 use Rattle.sai_types.specs.declared.body.Entry.TheVariants as entry
 use Rattle.sai_types.specs.declared.body.To.TheVariants as to
 use Rattle.sai_types.specs.Objects.{Objects}
-use Rattle.sai_types.specs.Named.{both, hops_at, thing_by, thing_of, whop_at}
+use Rattle.sai_types.specs.Named.{both, hops_at, router_at, thing_by, thing_of, whop_at}
 use Rattle.chip_names.specs.Members.{HasHops, group_named_by}
 use Rattle.chip_names.specs.Naming.{GroupHops, hops_of_group}
 use Rattle.sai_chip.proofs.MarkRanges.{group_tied}
 
 thing_by-known : (f h : Rid → Option (List WHop)) (objects : Objects) (e : Entry Rid) (b : Body Rid) → ((g : Rid) → group_named_by e b ≡ Some g → f g ≡ h g) → thing_by f objects (e, b) ≡ thing_by h objects (e, b)
 thing_by-known f h objects e (body.GroupMember group next_hop weight) known = ap (λ hs. both thing.GroupMember hs (whop_at objects next_hop weight)) (known group refl)
-thing_by-known f h objects e (body.Route prefix (to.Group g)) known = ap (λ hs. option_map (thing.Route prefix) (option_map goal.Group hs)) (known g refl)
+thing_by-known f h objects e (body.Route vr prefix (to.Group g)) known = ap (λ hs. both (λ v g. thing.Route v prefix g) (router_at objects vr) (option_map goal.Group hs)) (known g refl)
 thing_by-known f h objects (entry.Oid g) body.Group known = ap (option_map thing.Group) (known g refl)
 thing_by-known f h objects e b known = refl
 

@@ -92,10 +92,16 @@ claims-cons : (m k : TakenMark) (ks : List TakenMark) → claims m (k ∷ ks) �
 claims-cons m k ks = sum_by-cons (λ j. cond (is_mark j m) 1 0) k ks
 
 pointed : (o : Option (Body Rid)) (to : To Rid) (m : TakenMark) → claims m (marks_if o) + claims m (target_marks to) ≡ claims m (marks_if (option_map (λ b. with_attr b (attr.To to)) o)) + claims m (target_marks (unwrap_or (target_of o) to))
-pointed (Some (body.Route prefix from)) to m =
+pointed (Some (body.Route None prefix from)) to m =
     let one = claims-cons m (mark.Of kind.Route) (target_marks from) in
     let two = claims-cons m (mark.Of kind.Route) (target_marks to) in
     omega (arith, one, two)
+pointed (Some (body.Route (Some r) prefix from)) to m =
+    let one = claims-cons m (mark.Of kind.Route) (mark.RefersTo r ∷ target_marks from) in
+    let two = claims-cons m (mark.RefersTo r) (target_marks from) in
+    let three = claims-cons m (mark.Of kind.Route) (mark.RefersTo r ∷ target_marks to) in
+    let four = claims-cons m (mark.RefersTo r) (target_marks to) in
+    omega (arith, one, two, three, four)
 pointed o to m = refl
 
 -- a route that points elsewhere moves one reference
@@ -105,7 +111,7 @@ counted-pointed objects e to before mid after sorted counted more less =
     (λ m n h. let moved = pointed (body_at objects e) to m in let one = more m in let two = less m in omega (arith, h, moved, one, two))
 
 lacks_target : (b : Body Rid) (to : To Rid) → None ≡ target_of (Some b) → with_attr b (attr.To to) ≡ b
-lacks_target (body.Route prefix t) to h = absurd cc
+lacks_target (body.Route vr prefix t) to h = absurd cc
 lacks_target b to h = refl
 
 -- what is no route points nowhere else

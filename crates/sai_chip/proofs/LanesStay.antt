@@ -29,7 +29,7 @@ first-with_attr (body.Port lanes speed mtu up) (attr.Mtu m) = refl
 first-with_attr (body.Port lanes speed mtu up) (attr.Up u) = refl
 first-with_attr (body.VlanMember vlan bridge_port tagging) (attr.Tagging t) = refl
 first-with_attr (body.Neighbor rif ip mac) (attr.Mac m) = refl
-first-with_attr (body.Route prefix to) (attr.To t) = refl
+first-with_attr (body.Route vr prefix to) (attr.To t) = refl
 first-with_attr b a = refl
 
 module _ (made : (n : ℕ) (objects : Objects) (b : Body Rid) → body_at (after_call n objects (call.Create b)) (entry_of n b) ≡ Some b) (set : (n : ℕ) (objects : Objects) (e : Entry Rid) (a : Attr Rid) → body_at (after_call n objects (call.Set e a)) e ≡ option_map (λ b. with_attr b a) (body_at objects e)) (gone : (n : ℕ) (objects : Objects) (e : Entry Rid) → AreSorted objects → body_at (after_call n objects (call.Remove e)) e ≡ None) (n : ℕ) (objects : Objects) (sorted : AreSorted objects) (have : HaveLanes objects) where

@@ -29,14 +29,14 @@ use Rattle.sai_types.specs.contracts.hop.HopOrd.TheImpl.Laws as ordered_hop
 use Rattle.sai_types.specs.Names as name
 use Rattle.sai_types.specs.Forwarding.{hop_mac, same_hop}
 use Rattle.sai_types.specs.Made.{HaveOneEach}
-use Rattle.sai_types.specs.Named.{goal_by, hop_cmp, hop_on, hops_at, named, thing_of, those}
+use Rattle.sai_types.specs.Named.{goal_by, hop_cmp, hop_on, hops_at, named, router_at, thing_of, those}
 use Rattle.sai_types.specs.Objects.{Objects}
 use Rattle.sai_types.proofs.Rising.{hop_exact}
 use Rattle.chip_names.proofs.SameNames.{map-things_among}
 use Rattle.sai_chip.specs.Tally.{neighbor_cmp}
-use Rattle.sai_chip.specs.Bodies.{HaveIdKinds, owned, reached, routed, objects_in}
+use Rattle.sai_chip.specs.Bodies.{HaveIdKinds, OwnKey, RouteKey, owned, reached, routed, objects_in}
 use Rattle.sai_chip.proofs.Changed.{at-neighbor, neighbor_exact}
-use Rattle.sai_chip.proofs.Looked.{mac_other, passes-map, past, past-ids, past-last}
+use Rattle.sai_chip.proofs.Looked.{mac_other, passes-both, passes-map, past, past-ids, past-last}
 use Rattle.sai_chip.proofs.Passing.{both_ways, or_true}
 
 neighbor_total : IsTotalOrder neighbor_cmp
@@ -46,9 +46,9 @@ pub mapped_some : {X Y : Type 0} (f : X → Y) (o : Option X) → is_some (optio
 mapped_some f None = refl
 mapped_some f (Some x) = refl
 
-module _ (ids : List (Rid × Body Rid)) (ips : List Ip) (ns : List ((Rid × Ip) × Mac)) (rs : List (Prefix × To Rid)) (all : HaveIdKinds ids) (one : HaveOneEach (objects_in ids ips ns rs)) (rif : Rid) (ip : Ip) (hop : Hop) (is : hop_on (objects_in ids ips ns rs) rif ip ≡ Some hop) (there : is_some (lookup (is_at (neighbor_cmp (rif, ip))) ns) ≡ true) where
+module _ (ids : List (Rid × Body Rid)) (owns : List OwnKey) (ns : List ((Rid × Ip) × Mac)) (rs : List (RouteKey × To Rid)) (all : HaveIdKinds ids) (one : HaveOneEach (objects_in ids owns ns rs)) (rif : Rid) (ip : Ip) (hop : Hop) (is : hop_on (objects_in ids owns ns rs) rif ip ≡ Some hop) (there : is_some (lookup (is_at (neighbor_cmp (rif, ip))) ns) ≡ true) where
   abbrev held : Objects
-  held = objects_in ids ips ns rs
+  held = objects_in ids owns ns rs
 
   -- a neighbour of the same hop has the same key
   one_neighbor_key : (x : Rid × Ip) (h : Hop) → is_some (lookup (is_at (neighbor_cmp x)) ns) ≡ true → hop_on held x.0 x.1 ≡ Some h → same_hop h hop ≡ true → x ≡ (rif, ip)
@@ -58,8 +58,8 @@ module _ (ids : List (Rid × Body Rid)) (ips : List Ip) (ns : List ((Rid × Ip) 
       let n = some_by (lookup (is_at (neighbor_cmp (rif, ip))) ns) there in
       neighbor_exact x (rif, ip) (equal_by (neighbor_cmp x (rif, ip))
       (one.each (entry.Neigh x.0 x.1) (entry.Neigh rif ip) (body.Neighbor x.0 x.1 m.0) (body.Neighbor rif ip n.0) (thing.Neighbor h m.0) (thing.Neighbor hop n.0)
-      (at-neighbor ids ips ns rs x.0 x.1 ∙ ap (option_map (body.Neighbor x.0 x.1)) m.1)
-      (at-neighbor ids ips ns rs rif ip ∙ ap (option_map (body.Neighbor rif ip)) n.1)
+      (at-neighbor ids owns ns rs x.0 x.1 ∙ ap (option_map (body.Neighbor x.0 x.1)) m.1)
+      (at-neighbor ids owns ns rs rif ip ∙ ap (option_map (body.Neighbor rif ip)) n.1)
       (ap (option_map (λ h. thing.Neighbor h m.0)) named)
       (ap (option_map (λ h. thing.Neighbor h n.0)) is)
       (ap name.Neighbor alike)
@@ -81,7 +81,7 @@ module _ (ids : List (Rid × Body Rid)) (ips : List Ip) (ns : List ((Rid × Ip) 
   mac_step x xs (Some g) named found ts h = let tied = tied_key x.0 g found named in cc
 
   mac_in : (xs : List ((Rid × Ip) × Mac)) → ((p : Rid × Ip → Bool) → list_any p (keys_of xs) ≡ true → list_any p (keys_of ns) ≡ true) → hop_mac (those (map (thing_of held) (reached xs ++ routed rs))) hop ≡ lookup (is_at (neighbor_cmp (rif, ip))) xs
-  mac_in [] within = past-last (λ ts. hop_mac ts hop) held _ (λ e. passes-map (λ ts. hop_mac ts hop) (thing.Route e.0) (λ g ts. refl) (goal_by (hops_at held) held e.1)) rs
+  mac_in [] within = past-last (λ ts. hop_mac ts hop) held _ (λ e. passes-both (λ ts. hop_mac ts hop) (λ v g. thing.Route v e.0.1 g) (λ v g ts. refl) (router_at held e.0.0) (goal_by (hops_at held) held e.1)) rs
   mac_in (x ∷ xs) within =
       mac_step x xs (hop_on held x.0.0 x.0.1) refl
       (is_some-lookup (is_at (neighbor_cmp x.0)) ns ∙ within (is_at (neighbor_cmp x.0)) (ap (λ r. is_eq r || list_any (is_at (neighbor_cmp x.0)) (keys_of xs)) (tied_itself neighbor_total x.0)))
@@ -92,6 +92,6 @@ module _ (ids : List (Rid × Body Rid)) (ips : List Ip) (ns : List ((Rid × Ip) 
   mac-held =
       let F : List Thing → Option Mac = λ ts. hop_mac ts hop in
       sym (ap (λ l. F (those l)) (sym (map-things_among held held))
-      ∙ past-ids F held (mac_other hop) ids (owned ips ++ (reached ns ++ routed rs)) all
-      ∙ past F held _ (λ a ts. refl) ips (reached ns ++ routed rs)
+      ∙ past-ids F held (mac_other hop) ids (owned owns ++ (reached ns ++ routed rs)) all
+      ∙ past F held _ (λ k. passes-map F (λ v. thing.Own v k.1) (λ v ts. refl) (router_at held k.0)) owns (reached ns ++ routed rs)
       ∙ mac_in ns (λ p h. h))

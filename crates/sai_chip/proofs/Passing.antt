@@ -13,6 +13,14 @@ pub and_all : (b : Bool) → (b && true) ≡ b
 and_all true = refl
 and_all false = refl
 
+pub and_none : (b : Bool) → (b && false) ≡ false
+and_none true = refl
+and_none false = refl
+
+pub and_swap : (a b : Bool) → (a && b) ≡ (b && a)
+and_swap true b = sym (and_all b)
+and_swap false b = sym (and_none b)
+
 pub and_regrouped : (a b c : Bool) → (a && (b && c)) ≡ ((a && b) && c)
 and_regrouped true b c = refl
 and_regrouped false b c = refl

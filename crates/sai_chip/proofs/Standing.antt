@@ -1,5 +1,5 @@
 -- counts of marks against tests of objects
-use Rattle.std.proofs.Common.{◌≡◌, ℕ, ◌+◌, ◌==◌, nat_lt, Bool, true, false, ◌||◌, cond, List, [], ◌∷◌, sum_by, count_by, refl, sym, ap, ◌∙◌, arith, rules}
+use Rattle.std.proofs.Common.{◌≡◌, ℕ, ◌+◌, ◌==◌, nat_lt, Bool, true, false, ◌||◌, cond, List, [], ◌∷◌, Option, None, Some, sum_by, count_by, refl, sym, ap, ◌∙◌, arith, rules}
 use Rattle.std.specs.List.{list_any}
 use Rattle.std.specs.Map.{values_of}
 use Rattle.std.proofs.lemmas.List.Sums.{sum_by-cons}
@@ -13,11 +13,12 @@ use Rattle.sai_types.specs.declared.body.To.TheVariants as to
 use Rattle.sai_types.specs.declared.body.Body.{Body}
 use Rattle.sai_types.specs.declared.body.Body.TheVariants as body
 use Rattle.sai_types.specs.Objects.{Objects, level, is_of, kind_of, used}
+use Rattle.sai_types.specs.References.{router_of}
 use Rattle.sai_types.proofs.Apart.{any_same}
 use Rattle.sai_chip.specs.declared.mark.TakenMark.{TakenMark}
 use Rattle.sai_chip.specs.declared.mark.TakenMark.TheVariants as mark
 use Rattle.sai_chip.specs.Tally.{is_mark, claims}
-use Rattle.sai_chip.specs.Marks.{lane_marks, base_marks, target_marks, key_marks, marks_of, has_mark, is_claimed, times_claimed}
+use Rattle.sai_chip.specs.Marks.{lane_marks, base_marks, target_marks, key_marks, marks_of, has_mark, is_claimed, router_marks, times_claimed}
 
 positive-add : (m n : ℕ) → nat_lt 0 (m + n) ≡ (nat_lt 0 m || nat_lt 0 n)
 positive-add m n = grind (arith, common_steps)
@@ -64,20 +65,25 @@ kind_in-target k (to.Group r) = refl
 kind_in-key : (k : Kind) (b : Body Rid) → claims (mark.Of k) (key_marks b) ≡ 0
 kind_in-key k (body.Port lanes speed mtu up) = kind_in-lanes k lanes
 kind_in-key k (body.Vlan vlan) = refl
+kind_in-key k (body.VirtualRouter label) = refl
 kind_in-key k (body.BridgePort port) = refl
 kind_in-key k (body.VlanMember vlan bridge_port tagging) = refl
-kind_in-key k (body.Rif on) = kind_in-base k on
-kind_in-key k (body.OwnAddress ip) = refl
+kind_in-key k (body.Rif vr on) = kind_in-base k on
+kind_in-key k (body.OwnAddress vr ip) = refl
 kind_in-key k (body.Neighbor rif ip mac) = refl
 kind_in-key k (body.NextHop rif ip) = refl
 kind_in-key k body.Group = refl
 kind_in-key k (body.GroupMember group next_hop weight) = refl
-kind_in-key k (body.Route prefix to) = kind_in-target k to
+kind_in-key k (body.Route vr prefix to) = kind_in-target k to
+
+kind_in-router : (k : Kind) (vr : Option Rid) (ks : List TakenMark) → claims (mark.Of k) ks ≡ 0 → claims (mark.Of k) (router_marks vr ks) ≡ 0
+kind_in-router k None ks none = none
+kind_in-router k (Some r) ks none = none
 
 kind_in-marks : (k : Kind) (b : Body Rid) → claims (mark.Of k) (marks_of b) ≡ cond (is_of k b) 1 0
 kind_in-marks k b =
-    let one = sum_by-cons (λ m. cond (is_mark m (mark.Of k)) 1 0) (mark.Of (kind_of b)) (key_marks b) in
-    let none = kind_in-key k b in
+    let one = sum_by-cons (λ m. cond (is_mark m (mark.Of k)) 1 0) (mark.Of (kind_of b)) (router_marks (router_of b) (key_marks b)) in
+    let none = kind_in-router k (router_of b) (key_marks b) (kind_in-key k b) in
     let same = ap {B = ℕ} (λ b. cond b 1 0) (is_kind (kind_of b) k) in
     omega (arith, one, none, same)
 

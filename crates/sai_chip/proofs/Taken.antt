@@ -9,10 +9,7 @@ use Rattle.std.proofs.lemmas.List.{append-nil}
 use Rattle.swss_types.specs.declared.address.Ip.{Ip}
 use Rattle.swss_types.specs.declared.address.Mac.{Mac}
 use Rattle.swss_types.specs.declared.address.Prefix.{Prefix}
-use Rattle.swss_types.specs.contracts.address.IpPartialEq.TheImpl as ip_eq
-use Rattle.swss_types.specs.contracts.address.IpOrd.TheImpl as ip_ord
 use Rattle.swss_types.specs.contracts.address.IpOrd.TheImpl.Laws as ordered_ip
-use Rattle.swss_types.specs.contracts.address.PrefixOrd.TheImpl as prefix_ord
 use Rattle.swss_types.specs.contracts.address.PrefixOrd.TheImpl.Laws as ordered_prefix
 use Rattle.sai_types.specs.declared.ids.Rid.{Rid}
 use Rattle.sai_types.specs.declared.body.Body.{Body}
@@ -22,10 +19,11 @@ use Rattle.sai_types.specs.declared.body.Entry.TheVariants as entry
 use Rattle.sai_types.specs.declared.body.To.{To}
 use Rattle.sai_types.specs.After.{has_id}
 use Rattle.sai_types.specs.Objects.{Objects}
-use Rattle.sai_types.specs.Refusal.{clash, same_id}
+use Rattle.sai_types.specs.Refusal.{clash, same_id, same_ip, same_prefix, same_router}
+use Rattle.sai_types.proofs.Exact.{routers-tied}
 use Rattle.chip_names.specs.Naming.{numbered, rid_cmp}
 use Rattle.sai_chip.specs.Tally.{neighbor_cmp}
-use Rattle.sai_chip.specs.Bodies.{owned, reached, routed, objects_in}
+use Rattle.sai_chip.specs.Bodies.{OwnKey, RouteKey, own_cmp, owned, reached, route_cmp, routed, objects_in}
 
 -- a part of which no body passes a test
 any-past : {X : Type 0} (f : X → Entry Rid × Body Rid) (p : Body Rid → Bool) → ((x : X) → p (f x).1 ≡ false) → (xs : List X) (rest : Objects) → list_any (λ o. p o.1) (map f xs ++ rest) ≡ list_any (λ o. p o.1) rest
@@ -59,36 +57,36 @@ any-none f p none xs = ap (list_any (λ o. p o.1)) (sym (append-nil (map f xs)))
 id_tied : (r s : Rid) → same_id r s ≡ is_at (rid_cmp r) s
 id_tied r s = search rules
 
-module _ (ids : List (Rid × Body Rid)) (ips : List Ip) (neighbors : List ((Rid × Ip) × Mac)) (routes : List (Prefix × To Rid)) (all : AllByRecursion (λ e. has_id e.1 ≡ true) ids) where
-  id_no_own : (ip : Ip) (b : Body Rid) → has_id b ≡ true → clash (body.OwnAddress ip) b ≡ false
-  id_no_own ip (body.OwnAddress other) h = absurd cc
-  id_no_own ip b h = refl
+module _ (ids : List (Rid × Body Rid)) (owns : List OwnKey) (neighbors : List ((Rid × Ip) × Mac)) (routes : List (RouteKey × To Rid)) (all : AllByRecursion (λ e. has_id e.1 ≡ true) ids) where
+  id_no_own : (v : Option Rid) (ip : Ip) (b : Body Rid) → has_id b ≡ true → clash (body.OwnAddress v ip) b ≡ false
+  id_no_own v ip (body.OwnAddress w other) h = absurd cc
+  id_no_own v ip b h = refl
 
   id_no_neighbor : (r : Rid) (ip : Ip) (mac : Mac) (b : Body Rid) → has_id b ≡ true → clash (body.Neighbor r ip mac) b ≡ false
   id_no_neighbor r ip mac (body.Neighbor s other mac') h = absurd cc
   id_no_neighbor r ip mac b h = refl
 
-  id_no_route : (prefix : Prefix) (to : To Rid) (b : Body Rid) → has_id b ≡ true → clash (body.Route prefix to) b ≡ false
-  id_no_route prefix to (body.Route other to') h = absurd cc
-  id_no_route prefix to b h = refl
+  id_no_route : (v : Option Rid) (prefix : Prefix) (to : To Rid) (b : Body Rid) → has_id b ≡ true → clash (body.Route v prefix to) b ≡ false
+  id_no_route v prefix to (body.Route w other to') h = absurd cc
+  id_no_route v prefix to b h = refl
 
-  pub own-taken : (ip : Ip) → list_any (is_at (ip_ord.ghosts.cmp ip)) ips ≡ list_any (λ o. clash (body.OwnAddress ip) o.1) (objects_in ids ips neighbors routes)
-  own-taken ip =
-      sym (any-in (λ ip. (entry.Own ip, body.OwnAddress ip)) (clash (body.OwnAddress ip)) (is_at (ip_ord.ghosts.cmp ip)) (λ x. ordered_ip.matches_eq-law ip x) (reached neighbors ++ routed routes)
-      (any-past _ (clash (body.OwnAddress ip)) (λ x. refl) neighbors (routed routes) ∙ any-none _ (clash (body.OwnAddress ip)) (λ x. refl) routes) ips)
-      ∙ sym (any-ids (clash (body.OwnAddress ip)) (id_no_own ip) ids (owned ips ++ (reached neighbors ++ routed routes)) all)
+  pub own-taken : (v : Option Rid) (ip : Ip) → list_any (is_at (own_cmp (v, ip))) owns ≡ list_any (λ o. clash (body.OwnAddress v ip) o.1) (objects_in ids owns neighbors routes)
+  own-taken v ip =
+      sym (any-in (λ k. (entry.Own k.0 k.1, body.OwnAddress k.0 k.1)) (clash (body.OwnAddress v ip)) (is_at (own_cmp (v, ip))) (λ x. both_tied (same_router v x.0) (same_ip ip x.1) _ _ (routers-tied v x.0) (ordered_ip.matches_eq-law ip x.1)) (reached neighbors ++ routed routes)
+      (any-past _ (clash (body.OwnAddress v ip)) (λ x. refl) neighbors (routed routes) ∙ any-none _ (clash (body.OwnAddress v ip)) (λ x. refl) routes) owns)
+      ∙ sym (any-ids (clash (body.OwnAddress v ip)) (id_no_own v ip) ids (owned owns ++ (reached neighbors ++ routed routes)) all)
 
-  pub neighbor-taken : (r : Rid) (ip : Ip) (mac : Mac) → is_some (lookup (is_at (neighbor_cmp (r, ip))) neighbors) ≡ list_any (λ o. clash (body.Neighbor r ip mac) o.1) (objects_in ids ips neighbors routes)
+  pub neighbor-taken : (r : Rid) (ip : Ip) (mac : Mac) → is_some (lookup (is_at (neighbor_cmp (r, ip))) neighbors) ≡ list_any (λ o. clash (body.Neighbor r ip mac) o.1) (objects_in ids owns neighbors routes)
   neighbor-taken r ip mac =
       sym (any-keys (is_at (neighbor_cmp (r, ip))) neighbors)
-      ∙ sym (any-in (λ e. (entry.Neigh e.0.0 e.0.1, body.Neighbor e.0.0 e.0.1 e.1)) (clash (body.Neighbor r ip mac)) (λ e. is_at (neighbor_cmp (r, ip)) e.0) (λ x. both_tied (same_id r x.0.0) (ip_eq.ghosts.eq ip x.0.1) _ _ (id_tied r x.0.0) (ordered_ip.matches_eq-law ip x.0.1)) (routed routes) (any-none _ (clash (body.Neighbor r ip mac)) (λ x. refl) routes) neighbors)
-      ∙ sym (any-past _ (clash (body.Neighbor r ip mac)) (λ x. refl) ips (reached neighbors ++ routed routes))
-      ∙ sym (any-ids (clash (body.Neighbor r ip mac)) (id_no_neighbor r ip mac) ids (owned ips ++ (reached neighbors ++ routed routes)) all)
+      ∙ sym (any-in (λ e. (entry.Neigh e.0.0 e.0.1, body.Neighbor e.0.0 e.0.1 e.1)) (clash (body.Neighbor r ip mac)) (λ e. is_at (neighbor_cmp (r, ip)) e.0) (λ x. both_tied (same_id r x.0.0) (same_ip ip x.0.1) _ _ (id_tied r x.0.0) (ordered_ip.matches_eq-law ip x.0.1)) (routed routes) (any-none _ (clash (body.Neighbor r ip mac)) (λ x. refl) routes) neighbors)
+      ∙ sym (any-past _ (clash (body.Neighbor r ip mac)) (λ x. refl) owns (reached neighbors ++ routed routes))
+      ∙ sym (any-ids (clash (body.Neighbor r ip mac)) (id_no_neighbor r ip mac) ids (owned owns ++ (reached neighbors ++ routed routes)) all)
 
-  pub route-taken : (prefix : Prefix) (to : To Rid) → is_some (lookup (is_at (prefix_ord.ghosts.cmp prefix)) routes) ≡ list_any (λ o. clash (body.Route prefix to) o.1) (objects_in ids ips neighbors routes)
-  route-taken prefix to =
-      sym (any-keys (is_at (prefix_ord.ghosts.cmp prefix)) routes)
-      ∙ sym (any-last (λ e. (entry.Route e.0, body.Route e.0 e.1)) (clash (body.Route prefix to)) (λ e. is_at (prefix_ord.ghosts.cmp prefix) e.0) (λ x. ordered_prefix.matches_eq-law prefix x.0) routes)
-      ∙ sym (any-past _ (clash (body.Route prefix to)) (λ x. refl) neighbors (routed routes))
-      ∙ sym (any-past _ (clash (body.Route prefix to)) (λ x. refl) ips (reached neighbors ++ routed routes))
-      ∙ sym (any-ids (clash (body.Route prefix to)) (id_no_route prefix to) ids (owned ips ++ (reached neighbors ++ routed routes)) all)
+  pub route-taken : (v : Option Rid) (prefix : Prefix) (to : To Rid) → is_some (lookup (is_at (route_cmp (v, prefix))) routes) ≡ list_any (λ o. clash (body.Route v prefix to) o.1) (objects_in ids owns neighbors routes)
+  route-taken v prefix to =
+      sym (any-keys (is_at (route_cmp (v, prefix))) routes)
+      ∙ sym (any-last (λ e. (entry.Route e.0.0 e.0.1, body.Route e.0.0 e.0.1 e.1)) (clash (body.Route v prefix to)) (λ e. is_at (route_cmp (v, prefix)) e.0) (λ x. both_tied (same_router v x.0.0) (same_prefix prefix x.0.1) _ _ (routers-tied v x.0.0) (ordered_prefix.matches_eq-law prefix x.0.1)) routes)
+      ∙ sym (any-past _ (clash (body.Route v prefix to)) (λ x. refl) neighbors (routed routes))
+      ∙ sym (any-past _ (clash (body.Route v prefix to)) (λ x. refl) owns (reached neighbors ++ routed routes))
+      ∙ sym (any-ids (clash (body.Route v prefix to)) (id_no_route v prefix to) ids (owned owns ++ (reached neighbors ++ routed routes)) all)

@@ -3,6 +3,8 @@ use Rattle.std.proofs.Common.{◌≡◌, ℕ, ◌+◌, ◌-◌, Bool, false, con
 use Rattle.std.specs.Ordering.{nat_cmp}
 use Rattle.std.specs.BTreeMap.{is_at}
 use Rattle.swss_types.specs.declared.address.Ip.{Ip}
+use Rattle.swss_types.specs.declared.vrf.VrfName.{VrfName}
+use Rattle.swss_types.specs.Vrf.{vrf_name_cmp}
 use Rattle.sai_types.specs.declared.ids.Rid.{Rid}
 use Rattle.sai_types.specs.declared.kind.Kind.{Kind}
 use Rattle.sai_types.specs.declared.body.RifOn.{RifOn}
@@ -40,6 +42,10 @@ module _ (f : ℕ → Bool → ℕ) (none : (n : ℕ) → f n false ≡ n) (t : 
   pub with_vlans : (v : ℕ) (new : List (ℕ × ℕ)) → ((x : ℕ) → count_in nat_cmp new x ≡ f (count_in nat_cmp t.vlans x) (is_at (nat_cmp v) x)) → (m : TakenMark) → count_at (record t { vlans = new }) m ≡ f (count_at t m) (is_mark (mark.Vlan v) m)
   with_vlans v new h (mark.Vlan x) = h x
   with_vlans v new h m = sym (none (count_at t m))
+
+  pub with_routers : (label : VrfName) (new : List (VrfName × ℕ)) → ((x : VrfName) → count_in vrf_name_cmp new x ≡ f (count_in vrf_name_cmp t.routers x) (is_at (vrf_name_cmp label) x)) → (m : TakenMark) → count_at (record t { routers = new }) m ≡ f (count_at t m) (is_mark (mark.VirtualRouter label) m)
+  with_routers label new h (mark.VirtualRouter x) = h x
+  with_routers label new h m = sym (none (count_at t m))
 
   pub with_bridge_ports : (p : Rid) (new : List (Rid × ℕ)) → ((x : Rid) → count_in rid_cmp new x ≡ f (count_in rid_cmp t.bridge_ports x) (is_at (rid_cmp p) x)) → (m : TakenMark) → count_at (record t { bridge_ports = new }) m ≡ f (count_at t m) (is_mark (mark.BridgePort p) m)
   with_bridge_ports p new h (mark.BridgePort x) = h x

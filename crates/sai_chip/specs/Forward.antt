@@ -1,14 +1,14 @@
 -- Where a simulated chip sends packets, as its caller sees it. Own.
 use Rattle.std.specs.Prelude.{ℕ, Bool, true, nat_lt, List, [], ◌∷◌, map, Option, Some, None, option_map, if◌then◌else◌}
 use Rattle.std.specs.Ordering.{match_ordering}
-use Rattle.swss_types.specs.declared.address.Ip.{Ip}
 use Rattle.swss_types.specs.declared.address.Mac.{Mac}
 use Rattle.swss_types.specs.declared.address.Prefix.{Prefix}
+use Rattle.swss_types.specs.declared.vrf.Packet.{Packet}
+use Rattle.swss_types.specs.declared.vrf.Vrf.{Vrf}
 use Rattle.sai_types.specs.declared.hop.Hop.{Hop}
 use Rattle.sai_types.specs.declared.weight.WHop.{WHop}
 use Rattle.sai_types.specs.declared.thing.Goal.{Goal}
 use Rattle.sai_types.specs.declared.thing.Thing.TheVariants as thing
-use Rattle.swss_types.specs.Packets.{packet_to}
 use Rattle.sai_types.specs.Forwarding.{Forwarding, decision_of, forwarding_of, hop_mac, with_route}
 use Rattle.sai_types.specs.Forwarding as forwarding
 use Rattle.sai_types.specs.Hop.{heavier}
@@ -71,7 +71,8 @@ pick objects None r = option_map (λ r. sent objects r.1) r
 pick objects (Some best) None = Some best.1
 pick objects (Some best) (Some r) = if nat_lt best.0 r.0.len then Some (sent objects r.1) else Some best.1
 
--- a route to this goal beside the best of others; none where it has no goal
-abbrev pub with_goal : Ip → Prefix → Option Goal → Option (Prefix × Goal) → Option (Prefix × Goal)
-with_goal ip p None r = r
-with_goal ip p (Some goal) r = with_route (packet_to ip) (thing.Route p goal) r
+-- a route in this router to this goal beside the best of others; none where it has no router or no goal
+abbrev pub with_goal : Packet → Prefix → Option Vrf → Option Goal → Option (Prefix × Goal) → Option (Prefix × Goal)
+with_goal a p None goal r = r
+with_goal a p (Some v) None r = r
+with_goal a p (Some v) (Some goal) r = with_route a (thing.Route v p goal) r

@@ -11,6 +11,7 @@ use Rattle.sai_types.specs.declared.body.To.{To}
 use Rattle.sai_types.specs.declared.body.To.TheVariants as to
 use Rattle.sai_types.specs.declared.body.Entry.{Entry}
 use Rattle.sai_types.specs.Objects.{Objects, kind_of, body_at}
+use Rattle.sai_types.specs.References.{router_of}
 use Rattle.sai_chip.specs.declared.mark.TakenMark.{TakenMark}
 use Rattle.sai_chip.specs.declared.mark.TakenMark.TheVariants as mark
 use Rattle.sai_chip.specs.Tally.{Tally, is_mark, claims, count_at}
@@ -29,23 +30,29 @@ target_marks (to.Rif r) = mark.RefersTo r ∷ []
 target_marks (to.NextHop n) = mark.RefersTo n ∷ []
 target_marks (to.Group g) = mark.RefersTo g ∷ []
 
--- the natural key, the lanes and the references of a body; one without an identifier is found by its natural key
+-- with a reference to the virtual router in front, unless it is the default one
+abbrev pub router_marks : Option Rid → List TakenMark → List TakenMark
+router_marks None ks = ks
+router_marks (Some r) ks = mark.RefersTo r ∷ ks
+
+-- the natural key, the lanes and the references of a body beside its virtual router; one without an identifier is found by its natural key
 abbrev pub key_marks : Body Rid → List TakenMark
 key_marks (body.Port lanes speed mtu up) = lane_marks lanes
 key_marks (body.Vlan vlan) = mark.Vlan vlan ∷ []
+key_marks (body.VirtualRouter label) = mark.VirtualRouter label ∷ []
 key_marks (body.BridgePort port) = mark.BridgePort port ∷ mark.RefersTo port ∷ []
 key_marks (body.VlanMember vlan bridge_port tagging) = mark.VlanMember vlan bridge_port ∷ mark.RefersTo vlan ∷ mark.RefersTo bridge_port ∷ []
-key_marks (body.Rif on) = mark.Rif on ∷ base_marks on
-key_marks (body.OwnAddress ip) = []
+key_marks (body.Rif vr on) = mark.Rif on ∷ base_marks on
+key_marks (body.OwnAddress vr ip) = []
 key_marks (body.Neighbor rif ip mac) = mark.RefersTo rif ∷ []
 key_marks (body.NextHop rif ip) = mark.NextHop rif ip ∷ mark.RefersTo rif ∷ []
 key_marks body.Group = []
 key_marks (body.GroupMember group next_hop weight) = mark.GroupMember group next_hop weight ∷ mark.RefersTo group ∷ mark.RefersTo next_hop ∷ []
-key_marks (body.Route prefix to) = target_marks to
+key_marks (body.Route vr prefix to) = target_marks to
 
 -- what a body takes up
 abbrev pub marks_of : Body Rid → List TakenMark
-marks_of b = mark.Of (kind_of b) ∷ key_marks b
+marks_of b = mark.Of (kind_of b) ∷ router_marks (router_of b) (key_marks b)
 
 -- whether a body takes it up
 abbrev pub has_mark : TakenMark → Body Rid → Bool

@@ -8,6 +8,8 @@ use Rattle.std.specs.Ordering.{nat_cmp, ordering_then}
 use Rattle.std.specs.declared.cmp.Ordering.{Ordering}
 use Rattle.swss_types.specs.declared.address.Ip.{Ip}
 use Rattle.swss_types.specs.contracts.address.IpOrd.TheImpl as ip_ord
+use Rattle.swss_types.specs.declared.vrf.VrfName.{VrfName}
+use Rattle.swss_types.specs.Vrf.{vrf_name_cmp}
 use Rattle.sai_types.specs.declared.ids.Rid.{Rid}
 use Rattle.sai_types.specs.declared.kind.Kind.{Kind}
 use Rattle.sai_types.specs.declared.body.RifOn.{RifOn}
@@ -49,6 +51,7 @@ pub record Tally : Type 0 where
   pub references : List (Rid × ℕ)
   pub lanes : List (ℕ × ℕ)
   pub vlans : List (ℕ × ℕ)
+  pub routers : List (VrfName × ℕ)
   pub bridge_ports : List (Rid × ℕ)
   pub vlan_members : List ((Rid × Rid) × ℕ)
   pub rifs : List (RifOn Rid × ℕ)
@@ -57,7 +60,7 @@ pub record Tally : Type 0 where
 
 -- no mark is counted
 abbrev pub empty_tally : Tally
-empty_tally = record { kinds = []; references = []; lanes = []; vlans = []; bridge_ports = []; vlan_members = []; rifs = []; next_hops = []; group_members = [] }
+empty_tally = record { kinds = []; references = []; lanes = []; vlans = []; routers = []; bridge_ports = []; vlan_members = []; rifs = []; next_hops = []; group_members = [] }
 
 abbrev pub count_in : {K : Type 0} → (K → K → Ordering) → List (K × ℕ) → K → ℕ
 count_in cmp counts k = unwrap_or (lookup (is_at (cmp k)) counts) 0
@@ -68,6 +71,7 @@ count_at t (mark.Of k) = count_in kind_cmp t.kinds k
 count_at t (mark.RefersTo r) = count_in rid_cmp t.references r
 count_at t (mark.Lane lane) = count_in nat_cmp t.lanes lane
 count_at t (mark.Vlan vlan) = count_in nat_cmp t.vlans vlan
+count_at t (mark.VirtualRouter label) = count_in vrf_name_cmp t.routers label
 count_at t (mark.BridgePort port) = count_in rid_cmp t.bridge_ports port
 count_at t (mark.VlanMember vlan port) = count_in pair_cmp t.vlan_members (vlan, port)
 count_at t (mark.Rif on) = count_in rif_on_cmp t.rifs on
@@ -92,6 +96,7 @@ is_mark (mark.Of k) (mark.Of k') = is_at (kind_cmp k) k'
 is_mark (mark.RefersTo r) (mark.RefersTo r') = is_at (rid_cmp r) r'
 is_mark (mark.Lane lane) (mark.Lane lane') = is_at (nat_cmp lane) lane'
 is_mark (mark.Vlan vlan) (mark.Vlan vlan') = is_at (nat_cmp vlan) vlan'
+is_mark (mark.VirtualRouter label) (mark.VirtualRouter label') = is_at (vrf_name_cmp label) label'
 is_mark (mark.BridgePort port) (mark.BridgePort port') = is_at (rid_cmp port) port'
 is_mark (mark.VlanMember vlan port) (mark.VlanMember vlan' port') = is_at (pair_cmp (vlan, port)) (vlan', port')
 is_mark (mark.Rif on) (mark.Rif on') = is_at (rif_on_cmp on) on'

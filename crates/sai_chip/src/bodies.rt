@@ -7,41 +7,44 @@ ghost use Rattle.std.specs.Map.{lookup, remove_entry};
 ghost use Rattle.std.specs.Option.{is_some, option_map};
 ghost use Rattle.sai_types.specs.After.{after_set, entry_of, has_id};
 ghost use Rattle.sai_types.specs.ChipState.{objects_of};
-ghost use Rattle.swss_types.specs.Packets.{packet_to};
 ghost use Rattle.sai_types.specs.Forwarding.{best_route, has_own, hop_mac};
 ghost use Rattle.sai_types.specs.Made.{AreSorted, HaveOneEach};
-ghost use Rattle.sai_types.specs.Named.{hop_on, named, those};
+ghost use Rattle.sai_types.specs.Named.{hop_on, named, router_at, those};
 ghost use Rattle.sai_types.specs.Objects.{body_at, entry_cmp};
 ghost use Rattle.sai_types.specs.Refusal.{clash};
 ghost use Rattle.sai_types.specs.declared.hop.Hop.{Hop};
-ghost use Rattle.swss_types.specs.AddressOrder.{prefix_cmp};
-ghost use Rattle.swss_types.specs.contracts.address.IpOrd.TheImpl as ip_ord;
-ghost use Rattle.swss_types.specs.declared.address.Ip.{Ip};
+ghost use Rattle.swss_types.specs.declared.vrf.Packet.{Packet};
 ghost use Rattle.chip_names.specs.Naming.{AreBodies, numbered, rid_cmp};
-ghost use Rattle.sai_chip.specs.Bodies.{best_of, ids_set, keyed_at, macs_set, owned, reached, routed, target_of, targets_set, value_set};
+ghost use Rattle.sai_chip.specs.Bodies.{best_of, ids_set, is_own_key, is_router, keyed_at, macs_set, own_cmp, owned, reached, route_cmp, routed, target_of, targets_set, value_set};
 ghost use Rattle.sai_chip.specs.Tally.{neighbor_cmp};
 
 use crate::effect::set_attr;
-use chip_names::Numbered;
+use chip_names::{Numbered, router_at};
 use late_maps::LateMap;
 use sai_types::{Attr, Body, Entry, Object, Rid, To, empty_is_whole, entries_stay_sorted};
 use std::alloc::Global;
 use std::collections::{BTreeMap, BTreeSet};
 use std::marker::Model;
 use std::mem::replace;
-use swss_types::{Ip, Mac, OutOfMemory, Prefix};
+use swss_types::{Ip, Mac, OutOfMemory, Packet, Prefix, Vrf};
 
 /// The Ethernet addresses of neighbours, by their interfaces and addresses.
 pub type Neighbors = BTreeMap<(Rid, Ip), Mac>;
 
-/// Where routes point, by their prefixes, which mostly come in their order.
-pub type Routes = LateMap<Prefix, To<Rid>>;
+/// An own address: its virtual router, unless it is in the default one, and the address.
+pub type OwnKey = (Option<Rid>, Ip);
+
+/// A route: its virtual router, unless it is in the default one, and its prefix.
+pub type RouteKey = (Option<Rid>, Prefix);
+
+/// Where routes point, by their routers and prefixes, which mostly come in their order.
+pub type Routes = LateMap<RouteKey, To<Rid>>;
 
 /// The bodies of objects: those with identifiers, and those that are found by their own keys.
 #[derive(Drop)]
 pub struct Bodies {
     numbered: Numbered,
-    own: BTreeSet<Ip>,
+    own: BTreeSet<OwnKey>,
     neighbors: Neighbors,
     routes: Routes,
 }
@@ -99,17 +102,18 @@ impl Bodies {
     {
         match *entry {
             Entry::Oid(_) => None,
-            Entry::Own(ip) => self.own(ip),
+            Entry::Own(vr, ip) => self.own(vr, ip),
             Entry::Neigh(rif, ip) => self.neighbor(rif, &ip),
-            Entry::Route(prefix) => self.route(prefix),
+            Entry::Route(vr, prefix) => self.route(vr, prefix),
         }
     }
 
     /// The own address as a body, where it stands.
-    fn own(&self, ip: Ip) -> Option<Body<Rid>>
-        ensures { result ≡ body_at self.now (Entry.Own ip) }
+    fn own(&self, vr: Option<Rid>, ip: Ip) -> Option<Body<Rid>>
+        ensures { result ≡ body_at self.now (Entry.Own vr ip) }
     {
-        own_if(&ip, self.own.contains(&ip))
+        let key = (vr, ip);
+        own_if(&key, self.own.contains(&key))
     }
 
     /// The neighbour as a body, where it stands.
@@ -120,10 +124,11 @@ impl Bodies {
     }
 
     /// The route as a body, where it stands.
-    fn route(&self, prefix: Prefix) -> Option<Body<Rid>>
-        ensures { result ≡ body_at self.now (Entry.Route prefix) }
+    fn route(&self, vr: Option<Rid>, prefix: Prefix) -> Option<Body<Rid>>
+        ensures { result ≡ body_at self.now (Entry.Route vr prefix) }
     {
-        route_if(&prefix, self.routes.get(&prefix).copied())
+        let key = (vr, prefix);
+        route_if(&key, self.routes.get(&key).copied())
     }
 
     /// Whether an object with the natural key of this body stands, which has no identifier.
@@ -132,18 +137,29 @@ impl Bodies {
         ensures { result ≡ list_any (λ o. clash body.now o.1) self.now }
     {
         match body {
-            Body::OwnAddress { ip } => self.own.contains(ip),
+            Body::OwnAddress { vr, ip } => self.own.contains(&(*vr, *ip)),
             Body::Neighbor { rif, ip, .. } => self.neighbors.contains_key(&(*rif, *ip)),
-            Body::Route { prefix, .. } => self.routes.contains_key(prefix),
+            Body::Route { vr, prefix, .. } => self.routes.contains_key(&(*vr, *prefix)),
             _ => false,
         }
     }
 
-    /// Whether the address is one of the switch's own.
-    pub fn is_own(&self, ip: Ip) -> bool
-        ensures { result ≡ has_own (those (named self.now)) (packet_to ip) }
+    /// Whether a packet's address is one of the switch's own in its router. In the default router it is looked for by its
+    /// key, and in another, whose identifier is not known, among all of them.
+    pub fn is_own(&self, packet: &Packet) -> bool
+        ensures { result ≡ has_own (those (named self.now)) packet.now }
     {
-        self.own.contains(&ip)
+        match packet.vrf {
+            Vrf::Default => self.own.contains(&(None, packet.to)),
+            Vrf::Named(_) => has_own_key(&self.numbered, &self.own, packet),
+        }
+    }
+
+    /// Whether the virtual router of an object is there, and is this one.
+    pub fn is_in(&self, vr: Option<Rid>, vrf: Vrf) -> bool
+        ensures { result ≡ is_router vrf (router_at self.now vr) }
+    {
+        is_router(&self.numbered, vr, vrf)
     }
 
     /// The Ethernet address of a neighbour that stands.
@@ -155,9 +171,9 @@ impl Bodies {
         self.neighbors.get(&(rif, ip)).copied()
     }
 
-    /// The routes by their prefixes. No other object decides where an address goes that is not the switch's own.
+    /// The routes by their routers and prefixes. No other object decides where an address goes that is not the switch's own.
     pub fn routes(&self) -> &Routes
-        ensures { (ip : Ip) → best_route (those (named self.now)) (packet_to ip) ≡ best_of self.now result.now ip }
+        ensures { (a : Packet) → best_route (those (named self.now)) a ≡ best_of self.now result.now a }
     {
         &self.routes
     }
@@ -172,9 +188,9 @@ impl Bodies {
     {
         entries_stay_sorted();
         let old = match body {
-            Body::OwnAddress { ip } => put_own(&mut self.own, &ip)?,
+            Body::OwnAddress { vr, ip } => put_own(&mut self.own, &(vr, ip))?,
             Body::Neighbor { rif, ip, mac } => put_neighbor(&mut self.neighbors, rif, &ip, mac)?,
-            Body::Route { prefix, to } => put_route(&mut self.routes, &prefix, to)?,
+            Body::Route { vr, prefix, to } => put_route(&mut self.routes, &(vr, prefix), to)?,
             body => put_numbered(&mut self.numbered, id, body)?,
         };
         Ok(old)
@@ -187,9 +203,9 @@ impl Bodies {
         entries_stay_sorted();
         match *entry {
             Entry::Oid(id) => set_numbered(&mut self.numbered, id, attr),
-            Entry::Own(_) => {}
+            Entry::Own(_, _) => {}
             Entry::Neigh(rif, ip) => set_mac(&mut self.neighbors, (rif, ip), attr),
-            Entry::Route(prefix) => set_target(&mut self.routes, prefix, attr),
+            Entry::Route(vr, prefix) => set_target(&mut self.routes, (vr, prefix), attr),
         }
     }
 
@@ -200,7 +216,7 @@ impl Bodies {
     {
         entries_stay_sorted();
         match *entry {
-            Entry::Route(prefix) => point(&mut self.routes, &prefix, to),
+            Entry::Route(vr, prefix) => point(&mut self.routes, &(vr, prefix), to),
             _ => None,
         }
     }
@@ -213,12 +229,19 @@ impl Bodies {
         entries_stay_sorted();
         match entry {
             Entry::Oid(id) => self.numbered.remove(id),
-            Entry::Own(ip) => own_if(ip, self.own.remove(ip)),
+            Entry::Own(vr, ip) => {
+                let key = (*vr, *ip);
+                own_if(&key, self.own.remove(&key))
+            }
             Entry::Neigh(rif, ip) => {
                 let mac = self.neighbors.remove(&(*rif, *ip));
                 neighbor_if(*rif, ip, mac)
             }
-            Entry::Route(prefix) => route_if(prefix, self.routes.remove(prefix)),
+            Entry::Route(vr, prefix) => {
+                let key = (*vr, *prefix);
+                let to = self.routes.remove(&key);
+                route_if(&key, to)
+            }
         }
     }
 
@@ -265,16 +288,19 @@ fn put_numbered(
 }
 
 /// Puts an own address, and answers its body, if it stood before.
-fn put_own(own: &mut BTreeSet<Ip>, ip: &Ip) -> Result<Option<Body<Rid>>, Body<Rid>>
-    ensures ok { OnOk result (own.new.keys ≡ insert_key ip_ord.ghosts.cmp own.old.keys ip.now) }
-    ensures old { IfOk result (λ old. old ≡ (if list_any (is_at (ip_ord.ghosts.cmp ip.now)) own.old.keys then Some (Body.OwnAddress ip.now) else None)) }
-    ensures returned { IfErr result (λ failed. failed ≡ Body.OwnAddress ip.now) }
+fn put_own(own: &mut BTreeSet<OwnKey>, key: &OwnKey) -> Result<Option<Body<Rid>>, Body<Rid>>
+    ensures ok { OnOk result (own.new.keys ≡ insert_key own_cmp own.old.keys key.now) }
+    ensures old { IfOk result (λ old. old ≡ (if list_any (is_at (own_cmp key.now)) own.old.keys then Some (Body.OwnAddress key.now.0 key.now.1) else None)) }
+    ensures returned { IfErr result (λ failed. failed ≡ Body.OwnAddress key.now.0 key.now.1) }
     ensures err { OnErr result (own.new.keys ≡ own.old.keys) }
 {
-    match own.insert(*ip) {
+    match own.insert(*key) {
         Ok(true) => Ok(None),
-        Ok(false) => Ok(Some(Body::OwnAddress { ip: *ip })),
-        Err(_) => Err(Body::OwnAddress { ip: *ip }),
+        Ok(false) => Ok(own_if(key, true)),
+        Err(_) => Err(Body::OwnAddress {
+            vr: key.0,
+            ip: key.1,
+        }),
     }
 }
 
@@ -299,29 +325,62 @@ fn put_neighbor(
 /// Puts the target of a route, and answers the body of the route, if it stood before.
 fn put_route(
     routes: &mut Routes,
-    prefix: &Prefix,
+    key: &RouteKey,
     to: To<Rid>,
 ) -> Result<Option<Body<Rid>>, Body<Rid>>
-    ensures ok { OnOk result (routes.new ≡ insert_entry prefix_cmp routes.old prefix.now to) }
-    ensures old { IfOk result (λ old. old ≡ option_map (Body.Route prefix.now) (lookup (is_at (prefix_cmp prefix.now)) routes.old)) }
-    ensures returned { IfErr result (λ failed. failed ≡ Body.Route prefix.now to) }
+    ensures ok { OnOk result (routes.new ≡ insert_entry route_cmp routes.old key.now to) }
+    ensures old { IfOk result (λ old. old ≡ option_map (Body.Route key.now.0 key.now.1) (lookup (is_at (route_cmp key.now)) routes.old)) }
+    ensures returned { IfErr result (λ failed. failed ≡ Body.Route key.now.0 key.now.1 to) }
     ensures err { OnErr result (routes.new ≡ routes.old) }
 {
-    match routes.insert(*prefix, to) {
-        Ok(old) => Ok(route_if(prefix, old)),
+    match routes.insert(*key, to) {
+        Ok(old) => Ok(route_if(key, old)),
         Err(_) => Err(Body::Route {
-            prefix: *prefix,
+            vr: key.0,
+            prefix: key.1,
             to,
         }),
     }
 }
 
+/// Whether one of the own addresses is that of the packet, in its router.
+fn has_own_key(bodies: &Numbered, own: &BTreeSet<OwnKey>, packet: &Packet) -> bool
+    ensures { result ≡ list_any (is_own_key (numbered bodies.now) packet.now) own.now.keys }
+{
+    for key in own {
+        if is_own_key(bodies, key, packet) {
+            return true;
+        }
+    }
+    false
+}
+
+/// Whether an own address is that of the packet, in its router.
+fn is_own_key(bodies: &Numbered, key: &OwnKey, packet: &Packet) -> bool
+    ensures { result ≡ is_own_key (numbered bodies.now) packet.now key.now }
+{
+    key.1 == packet.to && is_router(bodies, key.0, packet.vrf)
+}
+
+/// Whether the virtual router of an object is there, and is this one.
+fn is_router(bodies: &Numbered, vr: Option<Rid>, vrf: Vrf) -> bool
+    ensures { result ≡ is_router vrf (router_at (numbered bodies.now) vr) }
+{
+    match router_at(bodies, vr) {
+        Some(other) => other == vrf,
+        None => false,
+    }
+}
+
 /// The body of an own address, where it stands.
-fn own_if(ip: &Ip, stands: bool) -> Option<Body<Rid>>
-    ensures { result ≡ (if stands then Some (Body.OwnAddress ip.now) else None) }
+fn own_if(key: &OwnKey, stands: bool) -> Option<Body<Rid>>
+    ensures { result ≡ (if stands then Some (Body.OwnAddress key.now.0 key.now.1) else None) }
 {
     if stands {
-        Some(Body::OwnAddress { ip: *ip })
+        Some(Body::OwnAddress {
+            vr: key.0,
+            ip: key.1,
+        })
     } else {
         None
     }
@@ -338,12 +397,13 @@ fn neighbor_if(rif: Rid, ip: &Ip, mac: Option<Mac>) -> Option<Body<Rid>>
 }
 
 /// The body of a route, where it has a target.
-fn route_if(prefix: &Prefix, to: Option<To<Rid>>) -> Option<Body<Rid>>
-    ensures { result ≡ option_map (Body.Route prefix.now) to }
+fn route_if(key: &RouteKey, to: Option<To<Rid>>) -> Option<Body<Rid>>
+    ensures { result ≡ option_map (Body.Route key.now.0 key.now.1) to }
 {
     match to {
         Some(to) => Some(Body::Route {
-            prefix: *prefix,
+            vr: key.0,
+            prefix: key.1,
             to,
         }),
         None => None,
@@ -371,20 +431,20 @@ fn set_mac(neighbors: &mut Neighbors, key: (Rid, Ip), attr: &Attr<Rid>)
 }
 
 /// Sets the target of a route, if it is there.
-fn set_target(routes: &mut Routes, prefix: Prefix, attr: &Attr<Rid>)
-    ensures { routes.new ≡ targets_set routes.old prefix attr.now }
+fn set_target(routes: &mut Routes, key: RouteKey, attr: &Attr<Rid>)
+    ensures { routes.new ≡ targets_set routes.old key attr.now }
 {
     if let Attr::To(to) = attr {
-        point(routes, &prefix, *to);
+        point(routes, &key, *to);
     }
 }
 
 /// Points a route elsewhere, if it is there, and answers where it pointed.
-fn point(routes: &mut Routes, prefix: &Prefix, to: To<Rid>) -> Option<To<Rid>>
-    ensures set { routes.new ≡ value_set (is_at (prefix_cmp prefix.now)) routes.old to }
-    ensures from { result ≡ lookup (is_at (prefix_cmp prefix.now)) routes.old }
+fn point(routes: &mut Routes, key: &RouteKey, to: To<Rid>) -> Option<To<Rid>>
+    ensures set { routes.new ≡ value_set (is_at (route_cmp key.now)) routes.old to }
+    ensures from { result ≡ lookup (is_at (route_cmp key.now)) routes.old }
 {
-    match routes.get_mut(prefix) {
+    match routes.get_mut(key) {
         Some(held) => Some(replace(held, to)),
         None => None,
     }
@@ -405,14 +465,14 @@ fn push_numbered(bodies: &Numbered, out: &mut Vec<Object<Rid>>) -> Result<(), Ou
 }
 
 /// Appends each own address.
-fn push_own(own: &BTreeSet<Ip>, out: &mut Vec<Object<Rid>>) -> Result<(), OutOfMemory>
+fn push_own(own: &BTreeSet<OwnKey>, out: &mut Vec<Object<Rid>>) -> Result<(), OutOfMemory>
     ensures ok { OnOk result (out.new.items ≡ out.old.items ++ objects_of (owned own.now.keys)) }
     ensures err { OnErr result (take (length out.old.items) out.new.items ≡ out.old.items) }
 {
-    for ip in own {
+    for (vr, ip) in own {
         out.push(Object {
-            entry: Entry::Own(*ip),
-            body: Body::OwnAddress { ip: *ip },
+            entry: Entry::Own(*vr, *ip),
+            body: Body::OwnAddress { vr: *vr, ip: *ip },
         })?;
     }
     Ok(())
@@ -441,10 +501,11 @@ fn push_routes(routes: &Routes, out: &mut Vec<Object<Rid>>) -> Result<(), OutOfM
     ensures ok { OnOk result (out.new.items ≡ out.old.items ++ objects_of (routed routes.now)) }
     ensures err { OnErr result (take (length out.old.items) out.new.items ≡ out.old.items) }
 {
-    for (prefix, to) in routes.iter() {
+    for ((vr, prefix), to) in routes.iter() {
         out.push(Object {
-            entry: Entry::Route(*prefix),
+            entry: Entry::Route(*vr, *prefix),
             body: Body::Route {
+                vr: *vr,
                 prefix: *prefix,
                 to: *to,
             },

@@ -2,12 +2,12 @@
 ghost use Rattle.std.specs.Prelude.{◌≡◌, ℕ, [], ◌∷◌, ◌+◌, ◌-◌, nat_lt, IfOk, OnOk, OnErr, option_copied, if◌then◌else◌};
 ghost use Rattle.std.specs.List.{list_any};
 ghost use Rattle.sai_types.specs.declared.ids.Rid.{Rid};
-ghost use Rattle.sai_chip.specs.Marks.{key_marks, lane_marks, marks_if, marks_of, target_marks};
+ghost use Rattle.sai_chip.specs.Marks.{key_marks, lane_marks, marks_if, marks_of, router_marks, target_marks};
 ghost use Rattle.sai_chip.specs.Tally.{AreMembers, count_at, empty_tally, has_member, is_mark, claims, same_member};
 ghost use Rattle.sai_chip.specs.declared.mark.TakenMark.{TakenMark};
 
 use crate::mark::TakenMark;
-use crate::marks::base;
+use crate::marks::{base, router_of};
 use crate::membership::{
     GroupMembers, count_member, has_member, lower_member, members_of, raise_member,
 };
@@ -17,7 +17,7 @@ use sai_types::{Body, Kind, Rid, RifOn, To, Weight};
 use std::alloc::Global;
 use std::collections::BTreeMap;
 use std::marker::Model;
-use swss_types::{Ip, OutOfMemory};
+use swss_types::{Ip, OutOfMemory, VrfName};
 
 /// A count for each mark, by what it marks; 0 for those that are not there. Identifiers mostly come in their order, and
 /// most objects are routes, the greatest kind, so all but the members of groups, which are looked for from the first of
@@ -28,6 +28,7 @@ pub struct Counts {
     references: LateMap<Rid, u64>,
     lanes: LateMap<u16, u64>,
     vlans: LateMap<u16, u64>,
+    routers: LateMap<VrfName, u64>,
     bridge_ports: LateMap<Rid, u64>,
     vlan_members: LateMap<(Rid, Rid), u64>,
     rifs: LateMap<RifOn<Rid>, u64>,
@@ -45,6 +46,7 @@ impl Model for Counts {
       references = c.references;
       lanes = c.lanes;
       vlans = c.vlans;
+      routers = c.routers;
       bridge_ports = c.bridge_ports;
       vlan_members = c.vlan_members;
       rifs = c.rifs;
@@ -65,6 +67,7 @@ impl Counts {
             references: LateMap::new(alloc),
             lanes: LateMap::new(alloc),
             vlans: LateMap::new(alloc),
+            routers: LateMap::new(alloc),
             bridge_ports: LateMap::new(alloc),
             vlan_members: LateMap::new(alloc),
             rifs: LateMap::new(alloc),
@@ -82,6 +85,7 @@ impl Counts {
             TakenMark::RefersTo(id) => count(&self.references, id),
             TakenMark::Lane(lane) => count(&self.lanes, lane),
             TakenMark::Vlan(vlan) => count(&self.vlans, vlan),
+            TakenMark::VirtualRouter(label) => count(&self.routers, label),
             TakenMark::BridgePort(port) => count(&self.bridge_ports, port),
             TakenMark::VlanMember(vlan, port) => count(&self.vlan_members, &(*vlan, *port)),
             TakenMark::Rif(on) => count(&self.rifs, on),
@@ -102,6 +106,7 @@ impl Counts {
             TakenMark::RefersTo(id) => raise(&mut self.references, id),
             TakenMark::Lane(lane) => raise(&mut self.lanes, lane),
             TakenMark::Vlan(vlan) => raise(&mut self.vlans, vlan),
+            TakenMark::VirtualRouter(label) => raise(&mut self.routers, label),
             TakenMark::BridgePort(port) => raise(&mut self.bridge_ports, port),
             TakenMark::VlanMember(vlan, port) => raise(&mut self.vlan_members, (vlan, port)),
             TakenMark::Rif(on) => raise(&mut self.rifs, on),
@@ -121,6 +126,7 @@ impl Counts {
             TakenMark::RefersTo(id) => lower(&mut self.references, id),
             TakenMark::Lane(lane) => lower(&mut self.lanes, lane),
             TakenMark::Vlan(vlan) => lower(&mut self.vlans, vlan),
+            TakenMark::VirtualRouter(label) => lower(&mut self.routers, label),
             TakenMark::BridgePort(port) => lower(&mut self.bridge_ports, port),
             TakenMark::VlanMember(vlan, port) => lower(&mut self.vlan_members, (vlan, port)),
             TakenMark::Rif(on) => lower(&mut self.rifs, on),
@@ -160,14 +166,30 @@ impl Counts {
     {
         let kind = body.kind();
         self.raise(TakenMark::Of(kind))?;
-        if let Err(error) = self.take_keys(body) {
+        if let Err(error) = self.take_within(router_of(body), body) {
             self.lower(TakenMark::Of(kind));
             return Err(error);
         }
         Ok(())
     }
 
-    /// Counts the natural key, the lanes and the references of a body once more.
+    /// Counts a virtual router, unless it is the default one, and the keys of a body in it once more.
+    fn take_within(&mut self, vr: Option<Rid>, body: &Body<Rid>) -> Result<(), OutOfMemory>
+        ensures ok { OnOk result ((m : TakenMark) → count_at self.new m ≡ count_at self.old m + claims m (router_marks vr (key_marks body.now))) }
+        ensures err { OnErr result ((m : TakenMark) → count_at self.new m ≡ count_at self.old m) }
+    {
+        let Some(id) = vr else {
+            return self.take_keys(body);
+        };
+        self.raise(TakenMark::RefersTo(id))?;
+        if let Err(error) = self.take_keys(body) {
+            self.lower(TakenMark::RefersTo(id));
+            return Err(error);
+        }
+        Ok(())
+    }
+
+    /// Counts the natural key, the lanes and the references of a body once more, but for its virtual router.
     fn take_keys(&mut self, body: &Body<Rid>) -> Result<(), OutOfMemory>
         ensures ok { OnOk result ((m : TakenMark) → count_at self.new m ≡ count_at self.old m + claims m (key_marks body.now)) }
         ensures err { OnErr result ((m : TakenMark) → count_at self.new m ≡ count_at self.old m) }
@@ -175,6 +197,7 @@ impl Counts {
         match body {
             Body::Port { lanes, .. } => self.take_lanes(lanes.items()),
             Body::Vlan { vlan } => self.raise(TakenMark::Vlan(*vlan)),
+            Body::VirtualRouter { label } => self.raise(TakenMark::VirtualRouter(*label)),
             Body::OwnAddress { .. } | Body::Group => Ok(()),
             Body::BridgePort { port } => self.raise_on(&TakenMark::BridgePort(*port), *port),
             Body::VlanMember {
@@ -186,7 +209,7 @@ impl Counts {
                 *vlan,
                 *bridge_port,
             ),
-            Body::Rif { on } => self.raise_on(&TakenMark::Rif(*on), base(*on)),
+            Body::Rif { on, .. } => self.raise_on(&TakenMark::Rif(*on), base(*on)),
             Body::Neighbor { rif, .. } => self.raise(TakenMark::RefersTo(*rif)),
             Body::NextHop { rif, ip } => self.raise_on(&TakenMark::NextHop(*rif, *ip), *rif),
             Body::GroupMember {
@@ -262,17 +285,32 @@ impl Counts {
     {
         if let Some(body) = body {
             self.lower(TakenMark::Of(body.kind()));
-            self.free_keys(body);
+            self.free_within(router_of(body), body);
         }
     }
 
-    /// Counts the natural key, the lanes and the references of a body once less, where they stand.
+    /// Counts a virtual router, unless it is the default one, and the keys of a body in it once less, where they stand.
+    fn free_within(&mut self, vr: Option<Rid>, body: &Body<Rid>)
+        ensures { (m : TakenMark) → count_at self.new m ≡ count_at self.old m - claims m (router_marks vr (key_marks body.now)) }
+    {
+        match vr {
+            Some(id) => {
+                self.lower(TakenMark::RefersTo(id));
+                self.free_keys(body);
+            }
+            None => self.free_keys(body),
+        }
+    }
+
+    /// Counts the natural key, the lanes and the references of a body once less, where they stand, but for its virtual
+    /// router.
     fn free_keys(&mut self, body: &Body<Rid>)
         ensures { (m : TakenMark) → count_at self.new m ≡ count_at self.old m - claims m (key_marks body.now) }
     {
         match body {
             Body::Port { lanes, .. } => self.free_lanes(lanes.items()),
             Body::Vlan { vlan } => self.lower(TakenMark::Vlan(*vlan)),
+            Body::VirtualRouter { label } => self.lower(TakenMark::VirtualRouter(*label)),
             Body::OwnAddress { .. } | Body::Group => {}
             Body::BridgePort { port } => self.take_away(&[
                 TakenMark::BridgePort(*port),
@@ -287,7 +325,7 @@ impl Counts {
                 TakenMark::RefersTo(*vlan),
                 TakenMark::RefersTo(*bridge_port),
             ]),
-            Body::Rif { on } => {
+            Body::Rif { on, .. } => {
                 self.take_away(&[TakenMark::Rif(*on), TakenMark::RefersTo(base(*on))])
             }
             Body::Neighbor { rif, .. } => self.lower(TakenMark::RefersTo(*rif)),

@@ -57,9 +57,9 @@ pub fn entry_of(id: Rid, body: &Body<Rid>) -> Entry<Rid>
     ensures { result ≡ entry_of id.0 body.now }
 {
     match body {
-        Body::OwnAddress { ip } => Entry::Own(*ip),
+        Body::OwnAddress { vr, ip } => Entry::Own(*vr, *ip),
         Body::Neighbor { rif, ip, .. } => Entry::Neigh(*rif, *ip),
-        Body::Route { prefix, .. } => Entry::Route(*prefix),
+        Body::Route { vr, prefix, .. } => Entry::Route(*vr, *prefix),
         _ => Entry::Oid(id),
     }
 }

@@ -2,7 +2,7 @@
 use crate::ways::Ways;
 use sai_types::Base;
 
-/// Where the packets of an address go.
+/// Where the packets of an address in a router go.
 #[derive(Debug, Drop)]
 pub enum Forward {
     /// To the switch itself.

@@ -1,12 +1,11 @@
-// Where a chip sends the packets of an address.
+// Where a chip sends packets.
 ghost use Rattle.std.specs.Prelude.{◌≡◌, true, Option, IfOk, option_copied, option_map};
 ghost use Rattle.std.specs.Option.{is_some};
 ghost use Rattle.swss_types.specs.Address.{covers};
-ghost use Rattle.swss_types.specs.Packets.{packet_to};
 ghost use Rattle.sai_types.specs.Forwarding.{best_route, forward};
 ghost use Rattle.sai_types.specs.Hop.{heavier};
 ghost use Rattle.sai_types.specs.Made.{HaveOneEach, ReferWell};
-ghost use Rattle.sai_types.specs.Named.{both, goal_by, hop_on, hops_at, named, those, whop_at};
+ghost use Rattle.sai_types.specs.Named.{both, goal_by, hop_on, hops_at, named, router_at, those, whop_at};
 ghost use Rattle.sai_types.specs.Objects.{body_at};
 ghost use Rattle.sai_types.specs.declared.body.Entry.TheVariants as entry;
 ghost use Rattle.sai_types.specs.declared.thing.Goal.{Goal};
@@ -14,6 +13,7 @@ ghost use Rattle.swss_types.specs.declared.address.Prefix.{Prefix};
 ghost use Rattle.chip_names.specs.Members.{hops_by};
 ghost use Rattle.sai_chip.specs.Forward.{answer_of, is_longer, more_ways, pick, sent, way_of, ways_by, ways_in, ways_of, weight_beside, with_goal};
 
+use crate::bodies::RouteKey;
 use crate::forward::Forward;
 use crate::held::Held;
 use crate::ways::Ways;
@@ -21,58 +21,62 @@ use chip_names::{hop_on, rif_at};
 use sai_types::{Body, Hop, Rid, To, WHop, Weight};
 use std::alloc::Global;
 use std::collections::BTreeMap;
-use swss_types::{Ip, Mac, OutOfMemory, Prefix, V6_BITS};
+use swss_types::{Ip, Mac, OutOfMemory, Packet, Prefix, V6_BITS};
 
 /// Hops, rising, each with its weight and its Ethernet address, where it has one.
 type Macs = BTreeMap<Hop, (Weight, Option<Mac>)>;
 
-/// Where the packets of an address go: to the switch itself where the address is its own, else where the route of the
-/// longest prefix points, else nowhere.
-pub fn forward_by(alloc: Global, held: &Held, ip: Ip) -> Result<Forward, OutOfMemory>
+/// Where a packet goes: to the switch itself where its address is the switch's own in its router, else where the route of
+/// the longest prefix there points, else nowhere.
+pub fn forward_by(alloc: Global, held: &Held, packet: &Packet) -> Result<Forward, OutOfMemory>
     requires refer { ReferWell held.now }
     requires one { HaveOneEach held.now }
-    ensures { IfOk result (λ f. f ≡ answer_of (forward (those (named held.now)) (packet_to ip))) }
+    ensures { IfOk result (λ f. f ≡ answer_of (forward (those (named held.now)) packet.now)) }
 {
-    if held.bodies().is_own(ip) {
+    if held.bodies().is_own(packet) {
         return Ok(Forward::Cpu);
     }
-    Ok(best_route(alloc, held, &ip)?.unwrap_or(Forward::Drop))
+    Ok(best_route(alloc, held, packet)?.unwrap_or(Forward::Drop))
 }
 
-/// Where the route of the longest prefix that covers the address sends: None where none covers it.
-fn best_route(alloc: Global, held: &Held, ip: &Ip) -> Result<Option<Forward>, OutOfMemory>
+/// Where the route of the packet's router with the longest prefix that covers its address sends: None where none does.
+fn best_route(alloc: Global, held: &Held, packet: &Packet) -> Result<Option<Forward>, OutOfMemory>
     requires refer { ReferWell held.now }
     requires one { HaveOneEach held.now }
-    ensures { IfOk result (λ best. best ≡ option_map (λ r. sent held.now r.1) (best_route (those (named held.now)) (packet_to ip.now))) }
+    ensures { IfOk result (λ best. best ≡ option_map (λ r. sent held.now r.1) (best_route (those (named held.now)) packet.now)) }
 {
     let mut best = None;
-    for (prefix, to) in held.bodies().routes().iter() {
-        best = with_route(alloc, held, ip, best, prefix, *to)?;
+    for (key, to) in held.bodies().routes().iter() {
+        best = with_route(alloc, held, packet, best, key, *to)?;
     }
     Ok(best.map(|route| route.1))
 }
 
-/// Of the best route so far and one more, the better: the one more where it covers the address and its prefix is longer.
+/// Of the best route so far and one more, the better: the one more where it is in the packet's router and covers its
+/// address, and its prefix is longer.
 fn with_route(
     alloc: Global,
     held: &Held,
-    ip: &Ip,
+    packet: &Packet,
     best: Option<(u8, Forward)>,
-    prefix: &Prefix,
+    key: &RouteKey,
     to: To<Rid>,
 ) -> Result<Option<(u8, Forward)>, OutOfMemory>
     requires refer { ReferWell held.now }
     requires one { HaveOneEach held.now }
-    ensures { IfOk result (λ better. (r : Option (Prefix × Goal)) → pick held.now better r ≡ pick held.now best (with_goal ip.now prefix.now (goal_by (hops_at held.now) held.now to) r)) }
+    ensures { IfOk result (λ better. (r : Option (Prefix × Goal)) → pick held.now better r ≡ pick held.now best (with_goal packet.now key.now.1 (router_at held.now key.now.0) (goal_by (hops_at held.now) held.now to) r)) }
 {
-    if !covers(prefix, ip) {
+    if !covers(&key.1, &packet.to) {
         return Ok(best);
     }
-    if !is_longer(prefix, &best) {
+    if !is_longer(&key.1, &best) {
+        return Ok(best);
+    }
+    if !held.bodies().is_in(key.0, packet.vrf) {
         return Ok(best);
     }
     match forward_to(alloc, held, to)? {
-        Some(forward) => Ok(Some((prefix.len, forward))),
+        Some(forward) => Ok(Some((key.1.len, forward))),
         None => Ok(best),
     }
 }

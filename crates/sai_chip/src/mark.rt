@@ -1,6 +1,6 @@
 // What an object takes up on a chip, one mark for each.
 use sai_types::{Kind, Rid, RifOn, Weight};
-use swss_types::Ip;
+use swss_types::{Ip, VrfName};
 
 /// What an object takes up: a place among its kind, a reference to another object, its natural key, a lane. An object
 /// without an identifier is found by its entry, so its natural key needs no mark.
@@ -14,6 +14,8 @@ pub enum TakenMark {
     Lane(u16),
     /// The VLAN of this number stands.
     Vlan(u16),
+    /// The virtual router of this label stands.
+    VirtualRouter(VrfName),
     /// The bridge port of this port stands.
     BridgePort(Rid),
     /// The bridge port is a member of the VLAN.

@@ -43,6 +43,7 @@ pub fn raise_member(counts: &mut GroupMembers, member: Member) -> Result<(), Out
     ensures err { OnErr result (counts.new.entries ≡ counts.old.entries) }
     ensures kept { AreMembers counts.new.entries }
 {
+    // a weight is never 0, which keeps the members as they are to be
     let _weight = member.2.get();
     let Some(count) = counts.get_mut(&member) else {
         counts.insert(member, 1)?;

@@ -7,7 +7,6 @@ ghost use Rattle.sai_types.specs.Made.{AreSorted, HaveLanes, has_first};
 ghost use Rattle.sai_types.specs.Objects.{Objects};
 ghost use Rattle.sai_types.specs.ChipState.{IsAnswered, IsListed, new_chip, objects_of};
 ghost use Rattle.sai_types.specs.Refusal.{refusal_of};
-ghost use Rattle.swss_types.specs.Packets.{packet_to};
 ghost use Rattle.sai_types.specs.Forwarding.{forward};
 ghost use Rattle.sai_types.specs.Named.{named, those};
 ghost use Rattle.sai_chip.specs.Forward.{answer_of};
@@ -27,7 +26,7 @@ use sai_types::{
 };
 use std::alloc::Global;
 use std::marker::Model;
-use swss_types::{Ip, OutOfMemory};
+use swss_types::{Ip, OutOfMemory, Packet, Vrf};
 
 /// For how many effects there is room from the first on. A list that grows from nothing leaves its smaller places behind
 /// it; memory that nothing was written to takes no place.
@@ -85,13 +84,14 @@ impl SimChip {
         self.effects.get(k.checked_sub(1)? as usize)
     }
 
-    /// Where the chip sends the packets of an address: to the switch itself where the address is its own, else where
-    /// the route of the longest prefix that covers the address points, with its hops in rising order, else nowhere.
-    pub fn forward(&self, alloc: Global, ip: Ip) -> Result<Forward, OutOfMemory>
-        ensures { IfOk result (λ f. f ≡ answer_of (forward (those (named self.now.objects)) (packet_to ip))) }
+    /// Where the chip sends the packets of an address in a router: to the switch itself where the address is its own there,
+    /// else where the route there points whose prefix is the longest that covers the address, with its hops in rising
+    /// order, else nowhere, as in a router that is not on the chip.
+    pub fn forward(&self, alloc: Global, vrf: Vrf, ip: Ip) -> Result<Forward, OutOfMemory>
+        ensures { IfOk result (λ f. f ≡ answer_of (forward (those (named self.now.objects)) (record { vrf = vrf; to = ip }))) }
     {
         keys_are_taken_once();
-        forward_by(alloc, &self.held, ip)
+        forward_by(alloc, &self.held, &Packet { vrf, to: ip })
     }
 
     /// The objects on the chip, each once, in the order of their entries.

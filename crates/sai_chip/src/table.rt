@@ -1,13 +1,15 @@
 // The chip's table of answers.
 ghost use Rattle.std.specs.Prelude.{◌≡◌, option_copied};
-ghost use Rattle.std.specs.List.{list_any};
+ghost use Rattle.std.specs.List.{list_all, list_any};
 ghost use Rattle.sai_types.specs.Objects.{body_at, is_there, is_kind_of};
+ghost use Rattle.sai_types.specs.References.{beside_router, main_targets, stands};
 ghost use Rattle.sai_types.specs.Refusal.{attr_refers_well, clash, create_refusal, first_refusal, has_attr, is_base, is_target, refers_to, refers_well, refusal_of, remove_refusal, set_refusal};
 ghost use Rattle.sai_chip.specs.Marks.{is_claimed};
 ghost use Rattle.sai_chip.specs.declared.mark.TakenMark.TheVariants as mark;
 
 use crate::held::Held;
 use crate::mark::TakenMark;
+use crate::marks::router_of;
 use sai_types::{Attr, Body, Call, Caps, ChipAnswer, Entry, Kind, Rid, RifOn, To};
 
 /// The first refusal of the table that holds for a call, and None where the call is legal.
@@ -129,15 +131,36 @@ fn is_base(held: &Held, on: &RifOn<Rid>) -> bool
 fn refers_well(held: &Held, body: &Body<Rid>) -> bool
     ensures { result ≡ refers_well held.now body.now }
 {
+    refers_within(held, router_of(body), body)
+}
+
+/// Whether a virtual router stands, as the default one always does, and what a body in it refers to beside it.
+fn refers_within(held: &Held, vr: Option<Rid>, body: &Body<Rid>) -> bool
+    ensures { result ≡ list_all (stands held.now) (beside_router vr (main_targets body.now)) }
+{
+    match vr {
+        Some(id) => is_there(held, Kind::VirtualRouter, id) && has_targets(held, body),
+        None => has_targets(held, body),
+    }
+}
+
+/// Whether each reference of a body beside its virtual router stands and is of the right kind.
+fn has_targets(held: &Held, body: &Body<Rid>) -> bool
+    ensures { result ≡ list_all (stands held.now) (main_targets body.now) }
+{
     match body {
-        Body::Port { .. } | Body::Vlan { .. } | Body::OwnAddress { .. } | Body::Group => true,
+        Body::Port { .. }
+        | Body::Vlan { .. }
+        | Body::VirtualRouter { .. }
+        | Body::OwnAddress { .. }
+        | Body::Group => true,
         Body::BridgePort { port } => is_there(held, Kind::Port, *port),
         Body::VlanMember {
             vlan,
             bridge_port,
             ..
         } => is_there(held, Kind::Vlan, *vlan) && is_there(held, Kind::BridgePort, *bridge_port),
-        Body::Rif { on } => is_base(held, on),
+        Body::Rif { on, .. } => is_base(held, on),
         Body::Neighbor { rif, .. } => is_there(held, Kind::Rif, *rif),
         Body::NextHop { rif, ip } => {
             is_there(held, Kind::Rif, *rif) && held.stands(&Entry::Neigh(*rif, *ip))
@@ -158,13 +181,14 @@ fn clashes(held: &Held, body: &Body<Rid>) -> bool
     match body {
         Body::Port { lanes, .. } => has_lane(held, lanes.items()),
         Body::Vlan { vlan } => held.has(&TakenMark::Vlan(*vlan)),
+        Body::VirtualRouter { label } => held.has(&TakenMark::VirtualRouter(*label)),
         Body::BridgePort { port } => held.has(&TakenMark::BridgePort(*port)),
         Body::VlanMember {
             vlan,
             bridge_port,
             ..
         } => held.has(&TakenMark::VlanMember(*vlan, *bridge_port)),
-        Body::Rif { on } => held.has(&TakenMark::Rif(*on)),
+        Body::Rif { on, .. } => held.has(&TakenMark::Rif(*on)),
         Body::OwnAddress { .. } | Body::Neighbor { .. } | Body::Route { .. } => {
             held.bodies().takes(body)
         }

@@ -1,9 +1,10 @@
 -- bodies that clash, before and after a set
-use Rattle.std.proofs.Common.{◌≡◌, ℕ, ◌==◌, Bool, false, ◌||◌, ◌&&◌, List, [], ◌∷◌, refl, sym, ap, ◌∙◌}
+use Rattle.std.proofs.Common.{◌≡◌, ℕ, ◌==◌, Bool, false, ◌||◌, ◌&&◌, List, [], ◌∷◌, Option, None, Some, refl, sym, ap, ◌∙◌}
 use Rattle.std.specs.Cmp.{nat_eq_equiv}
 use Rattle.std.specs.List.{list_any}
 use Rattle.swss_types.specs.contracts.address.IpEq.TheImpl.Laws as equal_ip
 use Rattle.swss_types.specs.contracts.address.PrefixEq.TheImpl.Laws as equal_prefix
+use Rattle.swss_types.proofs.Routers.{vrf_name-symm}
 use Rattle.swss_types.proofs.Truths.{or_regrouped}
 use Rattle.sai_types.specs.declared.ids.Rid.{Rid}
 use Rattle.sai_types.specs.declared.body.RifOn.{RifOn}
@@ -13,7 +14,7 @@ use Rattle.sai_types.specs.declared.body.Attr.TheVariants as attr
 use Rattle.sai_types.specs.declared.body.Body.{Body}
 use Rattle.sai_types.specs.declared.body.Body.TheVariants as body
 use Rattle.sai_types.specs.Objects.{kind_of}
-use Rattle.sai_types.specs.Refusal.{clash, same_id, same_base, share_lane}
+use Rattle.sai_types.specs.Refusal.{clash, same_id, same_base, same_router, share_lane}
 use Rattle.sai_types.specs.After.{entry_of, with_attr}
 
 pub any_same : {X : Type 0} (p q : X → Bool) → ((x : X) → p x ≡ q x) → (xs : List X) → list_any p xs ≡ list_any q xs
@@ -44,6 +45,12 @@ same_base-symm (on.Port a) (on.Vlan b) = refl
 same_base-symm (on.Vlan a) (on.Port b) = refl
 same_base-symm (on.Vlan a) (on.Vlan b) = same_id-symm a b
 
+pub same_router-symm : (a b : Option Rid) → same_router a b ≡ same_router b a
+same_router-symm None None = refl
+same_router-symm None (Some b) = refl
+same_router-symm (Some a) None = refl
+same_router-symm (Some a) (Some b) = same_id-symm a b
+
 both_same : (a b c d : Bool) → a ≡ b → c ≡ d → (a && c) ≡ (b && d)
 both_same a b c d e f = cc
 
@@ -55,14 +62,15 @@ clash_group _ = refl
 pub clash-symm : (b d : Body Rid) → clash b d ≡ clash d b
 clash-symm (body.Port lanes speed mtu up) (body.Port others s m u) = share_lane-symm lanes others
 clash-symm (body.Vlan vlan) (body.Vlan other) = nat_eq_equiv.symm vlan other
+clash-symm (body.VirtualRouter label) (body.VirtualRouter other) = vrf_name-symm label other
 clash-symm (body.BridgePort port) (body.BridgePort other) = same_id-symm port other
 clash-symm (body.VlanMember v p t) (body.VlanMember w q u) = both_same _ _ _ _ (same_id-symm v w) (same_id-symm p q)
-clash-symm (body.Rif on) (body.Rif other) = same_base-symm on other
-clash-symm (body.OwnAddress ip) (body.OwnAddress other) = equal_ip.laws-law.symm ip other
+clash-symm (body.Rif vr on) (body.Rif vr' other) = same_base-symm on other
+clash-symm (body.OwnAddress vr ip) (body.OwnAddress vr' other) = both_same _ _ _ _ (same_router-symm vr vr') (equal_ip.laws-law.symm ip other)
 clash-symm (body.Neighbor r ip mac) (body.Neighbor s other mac') = both_same _ _ _ _ (same_id-symm r s) (equal_ip.laws-law.symm ip other)
 clash-symm (body.NextHop r ip) (body.NextHop s other) = both_same _ _ _ _ (same_id-symm r s) (equal_ip.laws-law.symm ip other)
 clash-symm (body.GroupMember g n x) (body.GroupMember h m y) = both_same _ _ _ _ (same_id-symm g h) (same_id-symm n m)
-clash-symm (body.Route prefix to) (body.Route other to') = equal_prefix.laws-law.symm prefix other
+clash-symm (body.Route vr prefix to) (body.Route vr' other to') = both_same _ _ _ _ (same_router-symm vr vr') (equal_prefix.laws-law.symm prefix other)
 clash-symm body.Group d = sym (clash_group d)
 clash-symm _ _ = refl
 
@@ -73,7 +81,7 @@ clash-with_attr (body.Port lanes speed mtu up) (attr.Mtu m) (body.Port others sp
 clash-with_attr (body.Port lanes speed mtu up) (attr.Up u) (body.Port others speed' mtu' up') = refl
 clash-with_attr (body.VlanMember vlan bridge_port tagging) (attr.Tagging t) (body.VlanMember v p u) = refl
 clash-with_attr (body.Neighbor rif ip mac) (attr.Mac m) (body.Neighbor r i n) = refl
-clash-with_attr (body.Route prefix to) (attr.To t) (body.Route other to') = refl
+clash-with_attr (body.Route vr prefix to) (attr.To t) (body.Route vr' other to') = refl
 clash-with_attr _ _ _ = refl
 
 -- nor its entry and its kind
@@ -83,7 +91,7 @@ entry_of-with_attr n (body.Port lanes speed mtu up) (attr.Mtu m) = refl
 entry_of-with_attr n (body.Port lanes speed mtu up) (attr.Up u) = refl
 entry_of-with_attr n (body.VlanMember vlan bridge_port tagging) (attr.Tagging t) = refl
 entry_of-with_attr n (body.Neighbor rif ip mac) (attr.Mac m) = refl
-entry_of-with_attr n (body.Route prefix to) (attr.To t) = refl
+entry_of-with_attr n (body.Route vr prefix to) (attr.To t) = refl
 entry_of-with_attr n _ _ = refl
 
 pub kind_of-with_attr : (b : Body Rid) (a : Attr Rid) → kind_of (with_attr b a) ≡ kind_of b
@@ -92,5 +100,5 @@ kind_of-with_attr (body.Port lanes speed mtu up) (attr.Mtu m) = refl
 kind_of-with_attr (body.Port lanes speed mtu up) (attr.Up u) = refl
 kind_of-with_attr (body.VlanMember vlan bridge_port tagging) (attr.Tagging t) = refl
 kind_of-with_attr (body.Neighbor rif ip mac) (attr.Mac m) = refl
-kind_of-with_attr (body.Route prefix to) (attr.To t) = refl
+kind_of-with_attr (body.Route vr prefix to) (attr.To t) = refl
 kind_of-with_attr _ _ = refl

@@ -2,9 +2,14 @@
 use Rattle.std.proofs.Common.{◌≡◌, ℕ, ◌==◌, Bool, true, false, ◌||◌, ◌&&◌, List, [], ◌∷◌, slice_index, Option, None, Some, refl, sym, ap, ◌∙◌}
 use Rattle.std.specs.List.{list_any}
 use Rattle.std.proofs.lemmas.Bool.{and_from, eqb-true, eq-eqb}
+use Rattle.std.proofs.lemmas.Option.{same_Some}
 use Rattle.swss_types.specs.declared.address.Ip.{Ip}
 use Rattle.swss_types.specs.contracts.address.IpEq.TheImpl.Laws as equal_ip
 use Rattle.swss_types.proofs.Proper.{mapped}
+use Rattle.swss_types.proofs.Routers.{vrf_name-refl}
+use Rattle.swss_types.specs.declared.vrf.Vrf.{Vrf}
+use Rattle.swss_types.specs.declared.vrf.Vrf.TheVariants as vrf
+use Rattle.swss_types.specs.declared.vrf.VrfName.{VrfName}
 use Rattle.sai_types.specs.declared.ids.Rid.{Rid}
 use Rattle.sai_types.specs.declared.hop.Base.{Base}
 use Rattle.sai_types.specs.declared.hop.Base.TheVariants as base
@@ -15,8 +20,8 @@ use Rattle.sai_types.specs.declared.body.Body.{Body}
 use Rattle.sai_types.specs.declared.body.Body.TheVariants as body
 use Rattle.sai_types.specs.declared.body.Entry.TheVariants as entry
 use Rattle.sai_types.specs.Objects.{Objects, body_at}
-use Rattle.sai_types.specs.Refusal.{clash, same_id, same_ip, same_base, share_lane}
-use Rattle.sai_types.specs.Named.{body_port, body_vlan, port_at, vlan_at, bridge_port_of, bridge_port_at, base_on, rif_of, rif_at, hop_on, next_hop_of, next_hop_at, first_lane}
+use Rattle.sai_types.specs.Refusal.{clash, same_id, same_ip, same_base, same_router, share_lane}
+use Rattle.sai_types.specs.Named.{body_port, body_vlan, port_at, vlan_at, bridge_port_of, bridge_port_at, base_on, rif_of, rif_at, hop_on, next_hop_of, next_hop_at, first_lane, body_router, router_at}
 use Rattle.sai_types.specs.Made.{IsWhole, HaveLanes}
 use Rattle.sai_types.proofs.Exact.{ids-tied}
 
@@ -33,6 +38,12 @@ vlan_bases a b h = cc
 
 bases_apart : (a b : ℕ) → base.Port a ≡ base.Vlan b → ⊥
 bases_apart a b h = cc
+
+named_routers : (a b : VrfName) → vrf.Named a ≡ vrf.Named b → a ≡ b
+named_routers a b h = cc
+
+routers_apart : (a : VrfName) → vrf.Named a ≡ vrf.Default → ⊥
+routers_apart a h = cc
 
 any-implies : {X : Type 0} (p q : X → Bool) → ((x : X) → p x ≡ true → q x ≡ true) → (xs : List X) → list_any p xs ≡ true → list_any q xs ≡ true
 any-implies p q f [] h = h
@@ -61,10 +72,15 @@ module _ (objects : Objects) where
   bridge_port_found r n (Some _) e h = absurd cc
   bridge_port_found r n None e h = absurd cc
 
-  rif_found : (r : Rid) (b : Base) (o : Option (Body Rid)) → body_at objects (entry.Oid r) ≡ o → rif_of objects o ≡ Some b → (on : RifOn Rid) × (body_at objects (entry.Oid r) ≡ Some (body.Rif on)) × (base_on objects on ≡ Some b)
-  rif_found r b (Some (body.Rif on)) e h = (on, e, h)
+  rif_found : (r : Rid) (b : Base) (o : Option (Body Rid)) → body_at objects (entry.Oid r) ≡ o → rif_of objects o ≡ Some b → (on : RifOn Rid) × (vr : Option Rid) × (body_at objects (entry.Oid r) ≡ Some (body.Rif vr on)) × (base_on objects on ≡ Some b)
+  rif_found r b (Some (body.Rif vr on)) e h = (on, vr, e, h)
   rif_found r b (Some _) e h = absurd cc
   rif_found r b None e h = absurd cc
+
+  router_found : (r : Rid) (n : VrfName) (o : Option (Body Rid)) → body_at objects (entry.Oid r) ≡ o → body_router o ≡ Some n → body_at objects (entry.Oid r) ≡ Some (body.VirtualRouter n)
+  router_found r n (Some (body.VirtualRouter label)) e h = let same : label ≡ n = cc in e ∙ ap (λ v. Some (body.VirtualRouter v)) same
+  router_found r n (Some _) e h = absurd cc
+  router_found r n None e h = absurd cc
 
   pub next_hop_found : (r : Rid) (hop : Hop) (o : Option (Body Rid)) → body_at objects (entry.Oid r) ≡ o → next_hop_of objects o ≡ Some hop → (rif : Rid) × (ip : Ip) × (body_at objects (entry.Oid r) ≡ Some (body.NextHop rif ip)) × (hop_on objects rif ip ≡ Some hop)
   next_hop_found r hop (Some (body.NextHop rif ip)) e h = (rif, ip, e, h)
@@ -85,6 +101,19 @@ module _ (made : ℕ) (objects : Objects) (whole : IsWhole made objects) (have :
   pub one_vlan : (r s : Rid) (n : ℕ) → vlan_at objects r ≡ Some n → vlan_at objects s ≡ Some n → same_id r s ≡ true
   one_vlan r s n x y =
       one_id r s _ _ (vlan_found objects r n (body_at objects (entry.Oid r)) refl x) (vlan_found objects s n (body_at objects (entry.Oid s)) refl y) (eq-eqb n n refl)
+
+  -- two identifiers of one virtual router are one, and so are two routers of one name
+  pub one_router : (v w : Option Rid) (x : Vrf) → router_at objects v ≡ Some x → router_at objects w ≡ Some x → same_router v w ≡ true
+  one_router None None x g h = refl
+  one_router None (Some s) x g h = let m = mapped vrf.Named (body_router (body_at objects (entry.Oid s))) x h in absurd (routers_apart m.0 (m.2 ∙ sym (same_Some vrf.Default x g)))
+  one_router (Some r) None x g h = let m = mapped vrf.Named (body_router (body_at objects (entry.Oid r))) x g in absurd (routers_apart m.0 (m.2 ∙ sym (same_Some vrf.Default x h)))
+  one_router (Some r) (Some s) x g h =
+      let m = mapped vrf.Named (body_router (body_at objects (entry.Oid r))) x g in
+      let n = mapped vrf.Named (body_router (body_at objects (entry.Oid s))) x h in
+      let same : n.0 ≡ m.0 = named_routers n.0 m.0 (n.2 ∙ sym m.2) in
+      let p = router_found objects r m.0 (body_at objects (entry.Oid r)) refl m.1 in
+      let q = router_found objects s m.0 (body_at objects (entry.Oid s)) refl (n.1 ∙ ap Some same) in
+      one_id r s _ _ p q (vrf_name-refl m.0)
 
   pub one_bridge_port : (r s : Rid) (n : ℕ) → bridge_port_at objects r ≡ Some n → bridge_port_at objects s ≡ Some n → same_id r s ≡ true
   one_bridge_port r s n x y =
@@ -116,7 +145,7 @@ module _ (made : ℕ) (objects : Objects) (whole : IsWhole made objects) (have :
   one_rif r s n x y =
       let p = rif_found objects r n (body_at objects (entry.Oid r)) refl x in
       let q = rif_found objects s n (body_at objects (entry.Oid s)) refl y in
-      one_id r s _ _ p.1 q.1 (one_base p.0 q.0 n p.2 q.2)
+      one_id r s _ _ p.2 q.2 (one_base p.0 q.0 n p.3 q.3)
 
   -- an interface and an address that make one hop are one pair
   pub one_hop : (r s : Rid) (ip other : Ip) (hop : Hop) → hop_on objects r ip ≡ Some hop → hop_on objects s other ≡ Some hop → (same_id r s && same_ip ip other) ≡ true

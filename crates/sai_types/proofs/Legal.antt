@@ -4,7 +4,6 @@ use Rattle.std.specs.Cmp.{both_tied}
 use Rattle.std.specs.List.{list_any}
 use Rattle.std.proofs.lemmas.Bool.{eqb-true, false≢true, not-false}
 use Rattle.swss_types.specs.contracts.address.IpOrd.TheImpl.Laws as ordered_ip
-use Rattle.swss_types.specs.contracts.address.PrefixOrd.TheImpl.Laws as ordered_prefix
 use Rattle.sai_types.specs.declared.ids.Rid.{Rid}
 use Rattle.sai_types.specs.declared.answer.ChipAnswer.{ChipAnswer}
 use Rattle.sai_types.specs.declared.body.Attr.{Attr}
@@ -17,6 +16,7 @@ use Rattle.sai_types.specs.Refusal.{clash, first_refusal, create_refusal, set_re
 use Rattle.sai_types.specs.After.{entry_of}
 use Rattle.sai_types.specs.References.{attr_refers_well, refers_to, refers_well}
 use Rattle.sai_types.specs.Made.{same_entry, AreEntered}
+use Rattle.sai_types.proofs.Exact.{owns-tied, routes-tied}
 use Rattle.sai_types.proofs.Found.{any-found}
 
 pub first_of-none : (b : Bool) (a : ChipAnswer) (rest : Option ChipAnswer) → first_refusal b a rest ≡ None → (b ≡ false) × (rest ≡ None)
@@ -48,19 +48,19 @@ next_apart : (made n : ℕ) → n ≤ made → made + 1 ≡ n → ⊥
 next_apart made n le h = omega arith
 
 number_taken : (made n : ℕ) (d : Body Rid) → n ≤ made → same_entry (entry.Oid (record { 0 = made + 1 })) (entry_of n d) ≡ true → ⊥
-number_taken made n (body.OwnAddress ip) le h = false≢true h
+number_taken made n (body.OwnAddress vr ip) le h = false≢true h
 number_taken made n (body.Neighbor rif ip mac) le h = false≢true h
-number_taken made n (body.Route prefix to) le h = false≢true h
+number_taken made n (body.Route vr prefix to) le h = false≢true h
 number_taken made n _ le h = next_apart made n le (same_numbers (made + 1) n h)
 
 -- no object has the entry of a new one
 entry_taken : (made n : ℕ) (b d : Body Rid) → n ≤ made → same_entry (entry_of (made + 1) b) (entry_of n d) ≡ true → clash b d ≡ false → ⊥
-entry_taken made n (body.OwnAddress ip) (body.OwnAddress other) le h apart = false≢true (sym apart ∙ ordered_ip.matches_eq-law ip other ∙ h)
-entry_taken made n (body.OwnAddress ip) _ le h apart = false≢true h
+entry_taken made n (body.OwnAddress vr ip) (body.OwnAddress vr' other) le h apart = false≢true (sym apart ∙ sym (owns-tied vr vr' ip other) ∙ h)
+entry_taken made n (body.OwnAddress vr ip) _ le h apart = false≢true h
 entry_taken made n (body.Neighbor r ip mac) (body.Neighbor s other mac') le h apart = false≢true (sym apart ∙ both_tied _ _ _ _ (sym (id_same r.0 s.0)) (ordered_ip.matches_eq-law ip other) ∙ h)
 entry_taken made n (body.Neighbor r ip mac) _ le h apart = false≢true h
-entry_taken made n (body.Route prefix to) (body.Route other to') le h apart = false≢true (sym apart ∙ ordered_prefix.matches_eq-law prefix other ∙ h)
-entry_taken made n (body.Route prefix to) _ le h apart = false≢true h
+entry_taken made n (body.Route vr prefix to) (body.Route vr' other to') le h apart = false≢true (sym apart ∙ sym (routes-tied vr vr' prefix other) ∙ h)
+entry_taken made n (body.Route vr prefix to) _ le h apart = false≢true h
 entry_taken made n _ d le h apart = number_taken made n d le h
 
 not_found : (o : Option (Body Rid)) → ((d : Body Rid) → o ≡ Some d → ⊥) → o ≡ None

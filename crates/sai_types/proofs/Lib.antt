@@ -1,6 +1,7 @@
 pub mod Apart
 pub mod Decided
 pub mod Entries
+pub mod Equal
 pub mod Exact
 pub mod Found
 pub mod Keys

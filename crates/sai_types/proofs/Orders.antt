@@ -3,7 +3,8 @@ use Rattle.std.proofs.Common.{◌≡◌, List, [], ◌∷◌, Ordering, ap, ap�
 use Rattle.std.specs.Cmp.Lexicographic.{slice_cmp}
 use Rattle.std.specs.Ordering.{ordering_then}
 use Rattle.std.specs.declared.cmp.Ordering.TheVariants.{Less, Equal, Greater}
-use Rattle.swss_types.specs.AddressOrder.{ip_cmp}
+use Rattle.swss_types.specs.AddressOrder.{ip_cmp, prefix_cmp}
+use Rattle.swss_types.specs.Vrf.{vrf_cmp, vrf_name_cmp}
 use Rattle.sai_types.specs.contracts.hop.BaseOrd.TheImpl as base_ord
 use Rattle.sai_types.specs.contracts.thing.ThingOrd.TheImpl as thing_ord
 use Rattle.sai_types.specs.declared.hop.Base.{Base}
@@ -50,13 +51,14 @@ then_none Greater = refl
 pub things-by_parts : (t u : Thing) → (rest : Ordering) × (thing_ord.ghosts.cmp t u ≡ ordering_then (thing_order t u) rest)
 things-by_parts (thing.Port p) (thing.Port q) = (_, refl)
 things-by_parts (thing.Vlan v) (thing.Vlan w) = (Equal, then_none (nat_cmp v w))
+things-by_parts (thing.VirtualRouter m) (thing.VirtualRouter n) = (Equal, then_none (vrf_name_cmp m n))
 things-by_parts (thing.BridgePort p) (thing.BridgePort q) = (Equal, then_none (nat_cmp p q))
 things-by_parts (thing.VlanMember v p t) (thing.VlanMember w q u) = (_, then_assoc (nat_cmp v w) (nat_cmp p q) _)
-things-by_parts (thing.Rif a) (thing.Rif b) = (Equal, bases-by_parts a b ∙ then_none (base_order a b))
-things-by_parts (thing.Own i) (thing.Own j) = (Equal, then_none (ip_cmp i j))
+things-by_parts (thing.Rif a v) (thing.Rif b w) = (_, then_same _ (base_order a b) _ (bases-by_parts a b))
+things-by_parts (thing.Own v i) (thing.Own w j) = (Equal, then_none (ordering_then (vrf_cmp v w) (ip_cmp i j)))
 things-by_parts (thing.Neighbor g m) (thing.Neighbor h n) = (_, then_same (hop_cmp g h) (hop_order g h) _ (hops-by_parts g h))
 things-by_parts (thing.NextHop g) (thing.NextHop h) = (Equal, hops-by_parts g h ∙ then_none (hop_order g h))
 things-by_parts (thing.Group gs) (thing.Group hs) = (Equal, lists-by_parts gs hs ∙ then_none (slice_cmp whop_order gs hs))
 things-by_parts (thing.GroupMember gs g) (thing.GroupMember hs h) = (Equal, ap₂ ordering_then (lists-by_parts gs hs) (whops-by_parts g h) ∙ then_none (ordering_then (slice_cmp whop_order gs hs) (whop_order g h)))
-things-by_parts (thing.Route p f) (thing.Route q g) = (_, refl)
+things-by_parts (thing.Route v p f) (thing.Route w q g) = (_, then_assoc (vrf_cmp v w) (prefix_cmp p q) _)
 things-by_parts t u = (Equal, refl)

@@ -1,5 +1,5 @@
 -- references that stand, after a call
-use Rattle.std.proofs.Common.{◌≡◌, Bool, true, false, List, [], ◌∷◌, refl}
+use Rattle.std.proofs.Common.{◌≡◌, Bool, true, false, List, [], ◌∷◌, Option, None, Some, refl}
 use Rattle.std.specs.List.{list_all, list_any}
 use Rattle.std.proofs.lemmas.Bool.{and_from, and_parts, or_parts}
 use Rattle.sai_types.specs.declared.ids.Rid.{Rid}
@@ -11,7 +11,7 @@ use Rattle.sai_types.specs.declared.body.Entry.{Entry}
 use Rattle.sai_types.specs.After.{with_attr}
 use Rattle.sai_types.specs.Made.{same_entry}
 use Rattle.sai_types.specs.Objects.{Objects}
-use Rattle.sai_types.specs.References.{Reference, attr_refers_well, references, refers_to, refers_well, stands}
+use Rattle.sai_types.specs.References.{Reference, attr_refers_well, beside_router, references, refers_to, refers_well, stands, target_references}
 
 -- what passes one test passes another
 pub all-kept : {X : Type 0} (p q : X → Bool) → ((x : X) → p x ≡ true → q x ≡ true) → (xs : List X) → list_all p xs ≡ true → list_all q xs ≡ true
@@ -31,6 +31,11 @@ module _ (xs ys : Objects) (e : Entry Rid) (left : (r : Reference Rid) → same_
   pub refers_well-left : (b : Body Rid) → refers_to b e ≡ false → refers_well xs b ≡ true → refers_well ys b ≡ true
   refers_well-left b = all_left (references b)
 
+-- what passes with the virtual router in front and without it
+with_kept : (p : Reference Rid → Bool) (vr : Option Rid) (rs qs : List (Reference Rid)) → list_all p qs ≡ true → list_all p (beside_router vr rs) ≡ true → list_all p (beside_router vr qs) ≡ true
+with_kept p None rs qs t h = t
+with_kept p (Some r) rs qs t h = and_from _ _ (and_parts _ _ h).0 t
+
 -- a body with a new value refers well where its new target stands
 pub refers_well-with_attr : (objects : Objects) (b : Body Rid) (a : Attr Rid) → attr_refers_well objects a ≡ true → refers_well objects b ≡ true → refers_well objects (with_attr b a) ≡ true
 refers_well-with_attr objects (body.Port lanes speed mtu up) (attr.Speed s) t h = refl
@@ -38,5 +43,5 @@ refers_well-with_attr objects (body.Port lanes speed mtu up) (attr.Mtu m) t h = 
 refers_well-with_attr objects (body.Port lanes speed mtu up) (attr.Up u) t h = refl
 refers_well-with_attr objects (body.VlanMember vlan bridge_port tagging) (attr.Tagging x) t h = h
 refers_well-with_attr objects (body.Neighbor rif ip mac) (attr.Mac m) t h = h
-refers_well-with_attr objects (body.Route prefix to) (attr.To x) t h = t
+refers_well-with_attr objects (body.Route vr prefix to) (attr.To x) t h = with_kept (stands objects) vr (target_references to) (target_references x) t h
 refers_well-with_attr objects _ _ t h = h

@@ -48,9 +48,9 @@ is_some-kept (Some d) y f h = ap is_some (f d refl).1
 
 meant-kept : (r : Reference Rid) (x y : Option (Body Rid)) → ((d : Body Rid) → x ≡ Some d → (e : Body Rid) × (y ≡ Some e) × (kind_of e ≡ kind_of d)) → is_meant r x ≡ true → is_meant r y ≡ true
 meant-kept (k, entry.Oid r) x y f h = is_kind_of-kept k x y f h
-meant-kept (k, entry.Own ip) x y f h = is_some-kept x y f h
+meant-kept (k, entry.Own vr ip) x y f h = is_some-kept x y f h
 meant-kept (k, entry.Neigh r ip) x y f h = is_some-kept x y f h
-meant-kept (k, entry.Route p) x y f h = is_some-kept x y f h
+meant-kept (k, entry.Route vr p) x y f h = is_some-kept x y f h
 
 -- what refers well does so where each object is kept with its kind
 keeps_referring : (xs ys : Objects) → ((e : Entry Rid) (d : Body Rid) → body_at xs e ≡ Some d → (d' : Body Rid) × (body_at ys e ≡ Some d') × (kind_of d' ≡ kind_of d)) → (b : Body Rid) → refers_well xs b ≡ true → refers_well ys b ≡ true
@@ -58,9 +58,9 @@ keeps_referring xs ys kept b h = all-kept (stands xs) (stands ys) (λ r there. m
 
 -- the entry of a new object, by the identifiers made after it
 entered_new : (made : ℕ) (b : Body Rid) → (n : ℕ) × (n ≤ (if has_id b then made + 1 else made)) × (entry_of n b ≡ entry_of (made + 1) b)
-entered_new made (body.OwnAddress ip) = (0, omega arith, refl)
+entered_new made (body.OwnAddress vr ip) = (0, omega arith, refl)
 entered_new made (body.Neighbor rif ip mac) = (0, omega arith, refl)
-entered_new made (body.Route prefix to) = (0, omega arith, refl)
+entered_new made (body.Route vr prefix to) = (0, omega arith, refl)
 entered_new made _ = (made + 1, omega arith, refl)
 
 more_made : (b : Bool) (made n : ℕ) → n ≤ made → n ≤ (if b then made + 1 else made)

@@ -15,9 +15,9 @@ use Rattle.sai_types.specs.Objects.{Objects, body_at, entry_cmp}
 
 -- own addresses, neighbours and routes have no identifier
 abbrev pub has_id : {I : Type 0} → Body I → Bool
-has_id (body.OwnAddress ip) = false
+has_id (body.OwnAddress vr ip) = false
 has_id (body.Neighbor rif ip mac) = false
-has_id (body.Route prefix to) = false
+has_id (body.Route vr prefix to) = false
 has_id _ = true
 
 -- whether a call makes an object with an identifier
@@ -27,9 +27,9 @@ makes_id _ = false
 
 -- the entry of a new object: its key, or the identifier with this number
 abbrev pub entry_of : ℕ → Body Rid → Entry Rid
-entry_of n (body.OwnAddress ip) = entry.Own ip
+entry_of n (body.OwnAddress vr ip) = entry.Own vr ip
 entry_of n (body.Neighbor rif ip mac) = entry.Neigh rif ip
-entry_of n (body.Route prefix to) = entry.Route prefix
+entry_of n (body.Route vr prefix to) = entry.Route vr prefix
 entry_of n _ = entry.Oid (record { 0 = n })
 
 -- a body with a new value of an attribute that its kind has
@@ -39,7 +39,7 @@ with_attr (body.Port lanes speed mtu up) (attr.Mtu m) = body.Port lanes speed m 
 with_attr (body.Port lanes speed mtu up) (attr.Up u) = body.Port lanes speed mtu u
 with_attr (body.VlanMember vlan bridge_port tagging) (attr.Tagging t) = body.VlanMember vlan bridge_port t
 with_attr (body.Neighbor rif ip mac) (attr.Mac m) = body.Neighbor rif ip m
-with_attr (body.Route prefix to) (attr.To t) = body.Route prefix t
+with_attr (body.Route vr prefix to) (attr.To t) = body.Route vr prefix t
 with_attr b _ = b
 
 abbrev pub after_set : Objects → Entry Rid → Attr Rid → Option (Body Rid) → Objects

@@ -1,6 +1,6 @@
 -- What a set of things does with a packet. An own address comes before every route (own rule); a route is chosen by the longest prefix that covers the address (RFC 4632 section 5.1).
-use Rattle.std.specs.Prelude.{Bool, false, ◌||◌, nat_lt, List, [], ◌∷◌, map, Option, Some, None, if◌then◌else◌}
-use Rattle.swss_types.specs.Address.{covers}
+use Rattle.std.specs.Prelude.{Bool, false, ◌||◌, ◌&&◌, nat_lt, List, [], ◌∷◌, map, Option, Some, None, if◌then◌else◌}
+use Rattle.swss_types.specs.Vrf.{covers_in, same_vrf}
 use Rattle.swss_types.specs.declared.address.Mac.{Mac}
 use Rattle.swss_types.specs.declared.address.Prefix.{Prefix}
 use Rattle.swss_types.specs.declared.vrf.Packet.{Packet}
@@ -29,7 +29,7 @@ pub data Forwarding : Type 0 where
   Through : List (WHop × Option Mac) → Forwarding
 
 abbrev pub is_own : Packet → Thing → Bool
-is_own a (thing.Own ip) = same_ip ip a.to
+is_own a (thing.Own v ip) = same_vrf v a.vrf && same_ip ip a.to
 is_own a _ = false
 
 -- whether it goes to one of the switch's own addresses
@@ -43,10 +43,10 @@ longer p g None = Some (p, g)
 longer p g (Some best) = if nat_lt p.len best.0.len then Some best else Some (p, g)
 
 abbrev pub with_route : Packet → Thing → Option (Prefix × Goal) → Option (Prefix × Goal)
-with_route a (thing.Route p g) best = if covers p a.to then longer p g best else best
+with_route a (thing.Route v p g) best = if covers_in v p a then longer p g best else best
 with_route a _ best = best
 
--- the route of the longest prefix that covers the address
+-- the route of the packet's router with the longest prefix that covers its address
 abbrev pub best_route : List Thing → Packet → Option (Prefix × Goal)
 best_route [] a = None
 best_route (t ∷ ts) a = with_route a t (best_route ts a)
@@ -66,7 +66,7 @@ abbrev pub decide_route : Option (Prefix × Goal) → Decision
 decide_route None = Drop
 decide_route (Some route) = decision_of route.1
 
--- where a packet goes: to the switch itself where its address is one of the switch's own, else where the route of the longest prefix points, else nowhere
+-- where a packet goes: to the switch itself where its address is one of the switch's own in its router, else where the route of the longest prefix there points, else nowhere
 abbrev pub decide : List Thing → Packet → Decision
 decide things a = if has_own things a then Cpu else decide_route (best_route things a)
 

@@ -5,4 +5,4 @@ use Rattle.sai_types.specs.declared.kind.Kind.TheVariants as kind
 
 -- all of them
 abbrev pub all_kinds : List Kind
-all_kinds = kind.Port ∷ kind.Vlan ∷ kind.BridgePort ∷ kind.VlanMember ∷ kind.Rif ∷ kind.OwnAddress ∷ kind.Neighbor ∷ kind.NextHop ∷ kind.Group ∷ kind.GroupMember ∷ kind.Route ∷ []
+all_kinds = kind.Port ∷ kind.Vlan ∷ kind.VirtualRouter ∷ kind.BridgePort ∷ kind.VlanMember ∷ kind.Rif ∷ kind.OwnAddress ∷ kind.Neighbor ∷ kind.NextHop ∷ kind.Group ∷ kind.GroupMember ∷ kind.Route ∷ []

@@ -1,6 +1,9 @@
 -- What stands on a chip, up to identifiers: each object with its identifiers replaced by the natural keys of what they name. Own; the natural keys are those of the OCP SAI headers' key attributes.
 use Rattle.std.specs.Prelude.{ℕ, List, [], ◌∷◌, Option, Some, None, slice_index, option_map, if◌then◌else◌}
 use Rattle.swss_types.specs.declared.address.Ip.{Ip}
+use Rattle.swss_types.specs.declared.vrf.Vrf.{Vrf}
+use Rattle.swss_types.specs.declared.vrf.Vrf.TheVariants as vrf
+use Rattle.swss_types.specs.declared.vrf.VrfName.{VrfName}
 use Rattle.sai_types.specs.declared.ids.Rid.{Rid}
 use Rattle.sai_types.specs.declared.hop.Base.{Base}
 use Rattle.sai_types.specs.declared.hop.Base.TheVariants as base
@@ -40,11 +43,20 @@ abbrev pub body_vlan : Option (Body Rid) → Option ℕ
 body_vlan (Some (body.Vlan vlan)) = Some vlan
 body_vlan _ = None
 
+abbrev pub body_router : Option (Body Rid) → Option VrfName
+body_router (Some (body.VirtualRouter label)) = Some label
+body_router _ = None
+
 abbrev pub port_at : Objects → Rid → Option ℕ
 port_at objects r = body_port (body_at objects (entry.Oid r))
 
 abbrev pub vlan_at : Objects → Rid → Option ℕ
 vlan_at objects r = body_vlan (body_at objects (entry.Oid r))
+
+-- the virtual router of an object: the default one is none of the objects
+abbrev pub router_at : Objects → Option Rid → Option Vrf
+router_at objects None = Some vrf.Default
+router_at objects (Some r) = option_map vrf.Named (body_router (body_at objects (entry.Oid r)))
 
 -- a bridge port is named by its port
 abbrev pub bridge_port_of : Objects → Option (Body Rid) → Option ℕ
@@ -61,7 +73,7 @@ base_on objects (on.Vlan v) = option_map base.Vlan (vlan_at objects v)
 
 -- a router interface is named by its base
 abbrev pub rif_of : Objects → Option (Body Rid) → Option Base
-rif_of objects (Some (body.Rif on)) = base_on objects on
+rif_of objects (Some (body.Rif vr on)) = base_on objects on
 rif_of objects _ = None
 
 abbrev pub rif_at : Objects → Rid → Option Base
@@ -108,16 +120,17 @@ goal_by hops objects (to.Group g) = option_map goal.Group (hops g)
 abbrev pub thing_by : (Rid → Option (List WHop)) → Objects → (Entry Rid × Body Rid) → Option Thing
 thing_by hops objects (e, body.Port lanes speed mtu up) = Some (thing.Port (record { lanes = lanes; speed = speed; mtu = mtu; up = up }))
 thing_by hops objects (e, body.Vlan vlan) = Some (thing.Vlan vlan)
+thing_by hops objects (e, body.VirtualRouter label) = Some (thing.VirtualRouter label)
 thing_by hops objects (e, body.BridgePort port) = option_map thing.BridgePort (port_at objects port)
 thing_by hops objects (e, body.VlanMember vlan bridge_port tagging) = both (λ v p. thing.VlanMember v p tagging) (vlan_at objects vlan) (bridge_port_at objects bridge_port)
-thing_by hops objects (e, body.Rif on) = option_map thing.Rif (base_on objects on)
-thing_by hops objects (e, body.OwnAddress ip) = Some (thing.Own ip)
+thing_by hops objects (e, body.Rif vr on) = both thing.Rif (base_on objects on) (router_at objects vr)
+thing_by hops objects (e, body.OwnAddress vr ip) = option_map (λ v. thing.Own v ip) (router_at objects vr)
 thing_by hops objects (e, body.Neighbor rif ip mac) = option_map (λ h. thing.Neighbor h mac) (hop_on objects rif ip)
 thing_by hops objects (e, body.NextHop rif ip) = option_map thing.NextHop (hop_on objects rif ip)
 thing_by hops objects (entry.Oid g, body.Group) = option_map thing.Group (hops g)
 thing_by hops objects (_, body.Group) = None
 thing_by hops objects (e, body.GroupMember group next_hop weight) = both thing.GroupMember (hops group) (whop_at objects next_hop weight)
-thing_by hops objects (e, body.Route prefix to) = option_map (thing.Route prefix) (goal_by hops objects to)
+thing_by hops objects (e, body.Route vr prefix to) = both (λ v g. thing.Route v prefix g) (router_at objects vr) (goal_by hops objects to)
 
 -- what an object stands for, a group by the hops of its members
 abbrev pub thing_of : Objects → (Entry Rid × Body Rid) → Option Thing

@@ -32,28 +32,30 @@ body_at objects e = lookup (is_at (entry_cmp e)) objects
 abbrev pub level : Kind → ℕ
 level kind.Port = 0
 level kind.Vlan = 1
-level kind.BridgePort = 2
-level kind.VlanMember = 3
-level kind.Rif = 4
-level kind.OwnAddress = 5
-level kind.Neighbor = 6
-level kind.NextHop = 7
-level kind.Group = 8
-level kind.GroupMember = 9
-level kind.Route = 10
+level kind.VirtualRouter = 2
+level kind.BridgePort = 3
+level kind.VlanMember = 4
+level kind.Rif = 5
+level kind.OwnAddress = 6
+level kind.Neighbor = 7
+level kind.NextHop = 8
+level kind.Group = 9
+level kind.GroupMember = 10
+level kind.Route = 11
 
 abbrev pub kind_of : {I : Type 0} → Body I → Kind
 kind_of (body.Port lanes speed mtu up) = kind.Port
 kind_of (body.Vlan vlan) = kind.Vlan
+kind_of (body.VirtualRouter label) = kind.VirtualRouter
 kind_of (body.BridgePort port) = kind.BridgePort
 kind_of (body.VlanMember vlan bridge_port tagging) = kind.VlanMember
-kind_of (body.Rif on) = kind.Rif
-kind_of (body.OwnAddress ip) = kind.OwnAddress
+kind_of (body.Rif vr on) = kind.Rif
+kind_of (body.OwnAddress vr ip) = kind.OwnAddress
 kind_of (body.Neighbor rif ip mac) = kind.Neighbor
 kind_of (body.NextHop rif ip) = kind.NextHop
 kind_of body.Group = kind.Group
 kind_of (body.GroupMember group next_hop weight) = kind.GroupMember
-kind_of (body.Route prefix to) = kind.Route
+kind_of (body.Route vr prefix to) = kind.Route
 
 -- whether a body is of this kind
 abbrev pub is_of : {I : Type 0} → Kind → Body I → Bool

@@ -5,10 +5,12 @@ use Rattle.std.specs.Ordering.{nat_cmp, ordering_then}
 use Rattle.std.specs.declared.cmp.Ordering.{Ordering}
 use Rattle.std.specs.declared.cmp.Ordering.TheVariants.{Equal}
 use Rattle.swss_types.specs.AddressOrder.{ip_cmp, prefix_cmp}
+use Rattle.swss_types.specs.Vrf.{vrf_cmp, vrf_name_cmp}
 use Rattle.sai_types.specs.declared.hop.Base.{Base}
 use Rattle.sai_types.specs.declared.hop.Base.TheVariants as base
 use Rattle.sai_types.specs.declared.hop.Hop.{Hop}
 use Rattle.sai_types.specs.declared.weight.WHop.{WHop}
+use Rattle.sai_types.specs.contracts.thing.ThingOrd.TheImpl as thing_ord
 use Rattle.sai_types.specs.declared.thing.Thing.{Thing}
 use Rattle.sai_types.specs.declared.thing.Thing.TheVariants as thing
 use Rattle.sai_types.specs.Names.{thing_kind}
@@ -38,17 +40,22 @@ whop_order a b = ordering_then (hop_order a.hop b.hop) (nat_cmp a.weight b.weigh
 abbrev pub natural_order : Thing → Thing → Ordering
 natural_order (thing.Port p) (thing.Port q) = slice_cmp nat_cmp p.lanes q.lanes
 natural_order (thing.Vlan v) (thing.Vlan w) = nat_cmp v w
+natural_order (thing.VirtualRouter m) (thing.VirtualRouter n) = vrf_name_cmp m n
 natural_order (thing.BridgePort p) (thing.BridgePort q) = nat_cmp p q
 natural_order (thing.VlanMember v p t) (thing.VlanMember w q u) = ordering_then (nat_cmp v w) (nat_cmp p q)
-natural_order (thing.Rif a) (thing.Rif b) = base_order a b
-natural_order (thing.Own i) (thing.Own j) = ip_cmp i j
+natural_order (thing.Rif a v) (thing.Rif b w) = base_order a b
+natural_order (thing.Own v i) (thing.Own w j) = ordering_then (vrf_cmp v w) (ip_cmp i j)
 natural_order (thing.Neighbor g m) (thing.Neighbor h n) = hop_order g h
 natural_order (thing.NextHop g) (thing.NextHop h) = hop_order g h
 natural_order (thing.Group gs) (thing.Group hs) = slice_cmp whop_order gs hs
 natural_order (thing.GroupMember gs g) (thing.GroupMember hs h) = ordering_then (slice_cmp whop_order gs hs) (whop_order g h)
-natural_order (thing.Route p f) (thing.Route q g) = prefix_cmp p q
+natural_order (thing.Route v p f) (thing.Route w q g) = ordering_then (vrf_cmp v w) (prefix_cmp p q)
 natural_order t u = Equal
 
 -- things by their kinds, lowest first, and then by their natural keys
 abbrev pub thing_order : Thing → Thing → Ordering
 thing_order t u = ordering_then (nat_cmp (level (thing_kind t)) (level (thing_kind u))) (natural_order t u)
+
+-- the order of things: by kind, and within a kind by what they are
+abbrev pub thing_cmp : Thing → Thing → Ordering
+thing_cmp = thing_ord.ghosts.cmp

@@ -1,5 +1,5 @@
 -- What the objects of a chip refer to: the attributes of the OCP SAI headers that hold another object's identifier, and of a next hop the neighbour that it goes through.
-use Rattle.std.specs.Prelude.{Bool, List, [], ◌∷◌, Option}
+use Rattle.std.specs.Prelude.{Bool, List, [], ◌∷◌, Option, Some, None}
 use Rattle.std.specs.BTreeMap.{is_at}
 use Rattle.std.specs.List.{list_all, list_any}
 use Rattle.std.specs.Option.{is_some}
@@ -32,16 +32,32 @@ target_references (to.Rif r) = (kind.Rif, entry.Oid r) ∷ []
 target_references (to.NextHop n) = (kind.NextHop, entry.Oid n) ∷ []
 target_references (to.Group g) = (kind.Group, entry.Oid g) ∷ []
 
+-- the virtual router that an object is in, unless it is the default one
+abbrev pub router_of : {I : Type 0} → Body I → Option I
+router_of (body.Rif vr on) = vr
+router_of (body.OwnAddress vr ip) = vr
+router_of (body.Route vr prefix to) = vr
+router_of _ = None
+
+-- with the virtual router in front, unless it is the default one
+abbrev pub beside_router : {I : Type 0} → Option I → List (Reference I) → List (Reference I)
+beside_router None rs = rs
+beside_router (Some r) rs = (kind.VirtualRouter, entry.Oid r) ∷ rs
+
+-- what an object refers to beside its virtual router
+abbrev pub main_targets : {I : Type 0} → Body I → List (Reference I)
+main_targets (body.BridgePort port) = (kind.Port, entry.Oid port) ∷ []
+main_targets (body.VlanMember vlan bridge_port tagging) = (kind.Vlan, entry.Oid vlan) ∷ (kind.BridgePort, entry.Oid bridge_port) ∷ []
+main_targets (body.Rif vr on) = base_reference on ∷ []
+main_targets (body.Neighbor rif ip mac) = (kind.Rif, entry.Oid rif) ∷ []
+main_targets (body.NextHop rif ip) = (kind.Rif, entry.Oid rif) ∷ (kind.Neighbor, entry.Neigh rif ip) ∷ []
+main_targets (body.GroupMember group next_hop weight) = (kind.Group, entry.Oid group) ∷ (kind.NextHop, entry.Oid next_hop) ∷ []
+main_targets (body.Route vr prefix to) = target_references to
+main_targets _ = []
+
 -- what an object refers to
 abbrev pub references : {I : Type 0} → Body I → List (Reference I)
-references (body.BridgePort port) = (kind.Port, entry.Oid port) ∷ []
-references (body.VlanMember vlan bridge_port tagging) = (kind.Vlan, entry.Oid vlan) ∷ (kind.BridgePort, entry.Oid bridge_port) ∷ []
-references (body.Rif on) = base_reference on ∷ []
-references (body.Neighbor rif ip mac) = (kind.Rif, entry.Oid rif) ∷ []
-references (body.NextHop rif ip) = (kind.Rif, entry.Oid rif) ∷ (kind.Neighbor, entry.Neigh rif ip) ∷ []
-references (body.GroupMember group next_hop weight) = (kind.Group, entry.Oid group) ∷ (kind.NextHop, entry.Oid next_hop) ∷ []
-references (body.Route prefix to) = target_references to
-references _ = []
+references b = beside_router (router_of b) (main_targets b)
 
 -- what a new value of an attribute refers to
 abbrev pub attr_references : {I : Type 0} → Attr I → List (Reference I)

@@ -3,6 +3,7 @@ use Rattle.std.specs.Prelude.{◌≡◌, ℕ, Bool, true, false, not, ◌==◌, 
 use Rattle.std.specs.List.{list_any}
 use Rattle.std.specs.Option.{is_some}
 use Rattle.swss_types.specs.declared.address.Ip.{Ip}
+use Rattle.swss_types.specs.Vrf.{same_vrf_name}
 use Rattle.swss_types.specs.declared.address.Prefix.{Prefix}
 use Rattle.swss_types.specs.contracts.address.IpPartialEq.TheImpl as ip_eq
 use Rattle.swss_types.specs.contracts.address.PrefixPartialEq.TheImpl as prefix_eq
@@ -37,6 +38,13 @@ same_base (on.Vlan a) (on.Vlan b) = same_id a b
 same_base (on.Port a) (on.Vlan b) = false
 same_base (on.Vlan a) (on.Port b) = false
 
+-- whether two objects are in one virtual router
+abbrev pub same_router : Option Rid → Option Rid → Bool
+same_router None None = true
+same_router None (Some b) = false
+same_router (Some a) None = false
+same_router (Some a) (Some b) = same_id a b
+
 -- whether two lists of lanes have a lane in common
 abbrev pub share_lane : List ℕ → List ℕ → Bool
 share_lane lanes others = list_any (λ lane. list_any (λ other. lane == other) others) lanes
@@ -45,14 +53,15 @@ share_lane lanes others = list_any (λ lane. list_any (λ other. lane == other) 
 abbrev pub clash : Body Rid → Body Rid → Bool
 clash (body.Port lanes speed mtu up) (body.Port others speed' mtu' up') = share_lane lanes others
 clash (body.Vlan vlan) (body.Vlan other) = vlan == other
+clash (body.VirtualRouter label) (body.VirtualRouter other) = same_vrf_name label other
 clash (body.BridgePort port) (body.BridgePort other) = same_id port other
 clash (body.VlanMember vlan bridge_port tagging) (body.VlanMember vlan' bridge_port' tagging') = same_id vlan vlan' && same_id bridge_port bridge_port'
-clash (body.Rif on) (body.Rif other) = same_base on other
-clash (body.OwnAddress ip) (body.OwnAddress other) = same_ip ip other
+clash (body.Rif vr on) (body.Rif vr' other) = same_base on other
+clash (body.OwnAddress vr ip) (body.OwnAddress vr' other) = same_router vr vr' && same_ip ip other
 clash (body.Neighbor rif ip mac) (body.Neighbor rif' ip' mac') = same_id rif rif' && same_ip ip ip'
 clash (body.NextHop rif ip) (body.NextHop rif' ip') = same_id rif rif' && same_ip ip ip'
 clash (body.GroupMember group next_hop weight) (body.GroupMember group' next_hop' weight') = same_id group group' && same_id next_hop next_hop'
-clash (body.Route prefix to) (body.Route prefix' to') = same_prefix prefix prefix'
+clash (body.Route vr prefix to) (body.Route vr' prefix' to') = same_router vr vr' && same_prefix prefix prefix'
 clash _ _ = false
 
 -- how many objects of a kind there is room for
@@ -66,7 +75,7 @@ has_attr (body.Port lanes speed mtu up) (attr.Mtu m) = true
 has_attr (body.Port lanes speed mtu up) (attr.Up u) = true
 has_attr (body.VlanMember vlan bridge_port tagging) (attr.Tagging t) = true
 has_attr (body.Neighbor rif ip mac) (attr.Mac m) = true
-has_attr (body.Route prefix to) (attr.To t) = true
+has_attr (body.Route vr prefix to) (attr.To t) = true
 has_attr _ _ = false
 
 -- the first of several refusals

@@ -2,7 +2,7 @@
 ghost use Rattle.std.specs.Prelude.{◌≡◌, IfOk};
 
 use crate::{Kind, Weight};
-use swss_types::{Ip, Lanes, Mac, OutOfMemory, Prefix, Tagging};
+use swss_types::{Ip, Lanes, Mac, OutOfMemory, Prefix, Tagging, VrfName};
 
 /// What a router interface stands on.
 #[derive(Clone, Copy, Debug, PartialEq, Eq, PartialOrd, Ord)]
@@ -45,6 +45,11 @@ pub enum Body<I> {
         /// Its number, 1 to 4094.
         vlan: u16,
     },
+    /// A virtual router, known by its label.
+    VirtualRouter {
+        /// Its label.
+        label: VrfName,
+    },
     /// A port as a member of the bridge.
     BridgePort {
         /// The port.
@@ -61,11 +66,15 @@ pub enum Body<I> {
     },
     /// A router interface.
     Rif {
+        /// Its virtual router, unless it is the default one.
+        vr: Option<I>,
         /// The port or VLAN that it stands on.
         on: RifOn<I>,
     },
     /// An address of the switch itself.
     OwnAddress {
+        /// Its virtual router, unless it is the default one.
+        vr: Option<I>,
         /// The address.
         ip: Ip,
     },
@@ -98,6 +107,8 @@ pub enum Body<I> {
     },
     /// A route.
     Route {
+        /// Its virtual router, unless it is the default one.
+        vr: Option<I>,
         /// What it covers.
         prefix: Prefix,
         /// Where it points.
@@ -110,12 +121,12 @@ pub enum Body<I> {
 pub enum Entry<I> {
     /// An identifier.
     Oid(I),
-    /// An address of the switch itself.
-    Own(Ip),
+    /// An address of the switch itself, in a virtual router unless it is in the default one.
+    Own(Option<I>, Ip),
     /// A neighbour, by its interface and address.
     Neigh(I, Ip),
-    /// A route, by its prefix.
-    Route(Prefix),
+    /// A route, by its virtual router unless it is the default one, and its prefix.
+    Route(Option<I>, Prefix),
 }
 
 /// A new value of one attribute.
@@ -157,6 +168,7 @@ pub struct Object<I> {
 
 impl<I> Body<I> {
     ghost use Rattle.sai_types.specs.Objects.{kind_of};
+    ghost use Rattle.sai_types.specs.declared.body.Body.TheVariants as body;
 
     /// Its kind.
     pub fn kind(&self) -> Kind
@@ -165,6 +177,7 @@ impl<I> Body<I> {
         match self {
             Body::Port { .. } => Kind::Port,
             Body::Vlan { .. } => Kind::Vlan,
+            Body::VirtualRouter { .. } => Kind::VirtualRouter,
             Body::BridgePort { .. } => Kind::BridgePort,
             Body::VlanMember { .. } => Kind::VlanMember,
             Body::Rif { .. } => Kind::Rif,
@@ -174,6 +187,40 @@ impl<I> Body<I> {
             Body::Group => Kind::Group,
             Body::GroupMember { .. } => Kind::GroupMember,
             Body::Route { .. } => Kind::Route,
+        }
+    }
+
+    /// A port.
+    fn port(lanes: Lanes, speed: u32, mtu: u32, up: bool) -> Body<I>
+        ensures { result ≡ body.Port lanes speed mtu up }
+    {
+        Body::Port {
+            lanes,
+            speed,
+            mtu,
+            up,
+        }
+    }
+
+    /// A bridge port in a VLAN.
+    fn vlan_member(vlan: I, bridge_port: I, tagging: Tagging) -> Body<I>
+        ensures { result ≡ body.VlanMember vlan bridge_port tagging }
+    {
+        Body::VlanMember {
+            vlan,
+            bridge_port,
+            tagging,
+        }
+    }
+
+    /// A next hop in a group.
+    fn group_member(group: I, next_hop: I, weight: Weight) -> Body<I>
+        ensures { result ≡ body.GroupMember group next_hop weight }
+    {
+        Body::GroupMember {
+            group,
+            next_hop,
+            weight,
         }
     }
 }
@@ -189,25 +236,17 @@ impl<I: Copy> Body<I> {
                 speed,
                 mtu,
                 up,
-            } => Body::Port {
-                lanes: lanes.copy()?,
-                speed: *speed,
-                mtu: *mtu,
-                up: *up,
-            },
+            } => Self::port(lanes.copy()?, *speed, *mtu, *up),
             Body::Vlan { vlan } => Body::Vlan { vlan: *vlan },
+            Body::VirtualRouter { label } => Body::VirtualRouter { label: *label },
             Body::BridgePort { port } => Body::BridgePort { port: *port },
             Body::VlanMember {
                 vlan,
                 bridge_port,
                 tagging,
-            } => Body::VlanMember {
-                vlan: *vlan,
-                bridge_port: *bridge_port,
-                tagging: *tagging,
-            },
-            Body::Rif { on } => Body::Rif { on: *on },
-            Body::OwnAddress { ip } => Body::OwnAddress { ip: *ip },
+            } => Self::vlan_member(*vlan, *bridge_port, *tagging),
+            Body::Rif { vr, on } => Body::Rif { vr: *vr, on: *on },
+            Body::OwnAddress { vr, ip } => Body::OwnAddress { vr: *vr, ip: *ip },
             Body::Neighbor { rif, ip, mac } => Body::Neighbor {
                 rif: *rif,
                 ip: *ip,
@@ -219,12 +258,9 @@ impl<I: Copy> Body<I> {
                 group,
                 next_hop,
                 weight,
-            } => Body::GroupMember {
-                group: *group,
-                next_hop: *next_hop,
-                weight: *weight,
-            },
-            Body::Route { prefix, to } => Body::Route {
+            } => Self::group_member(*group, *next_hop, *weight),
+            Body::Route { vr, prefix, to } => Body::Route {
+                vr: *vr,
                 prefix: *prefix,
                 to: *to,
             },

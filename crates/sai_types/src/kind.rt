@@ -2,7 +2,7 @@
 ghost use Rattle.std.specs.Prelude.{◌≡◌, ◌<◌};
 
 /// How many kinds there are.
-pub const KINDS: usize = 11;
+pub const KINDS: usize = 12;
 
 /// A number for each kind, in the order of `Kind`.
 pub type KindCounts = [u64; KINDS];
@@ -14,6 +14,8 @@ pub enum Kind {
     Port,
     /// A VLAN.
     Vlan,
+    /// A virtual router.
+    VirtualRouter,
     /// A port as a member of the bridge.
     BridgePort,
     /// A bridge port in a VLAN.
@@ -41,6 +43,7 @@ impl Kind {
     pub const ALL: [Kind; KINDS] = [
         Kind::Port,
         Kind::Vlan,
+        Kind::VirtualRouter,
         Kind::BridgePort,
         Kind::VlanMember,
         Kind::Rif,
@@ -60,15 +63,16 @@ impl Kind {
         match self {
             Kind::Port => 0,
             Kind::Vlan => 1,
-            Kind::BridgePort => 2,
-            Kind::VlanMember => 3,
-            Kind::Rif => 4,
-            Kind::OwnAddress => 5,
-            Kind::Neighbor => 6,
-            Kind::NextHop => 7,
-            Kind::Group => 8,
-            Kind::GroupMember => 9,
-            Kind::Route => 10,
+            Kind::VirtualRouter => 2,
+            Kind::BridgePort => 3,
+            Kind::VlanMember => 4,
+            Kind::Rif => 5,
+            Kind::OwnAddress => 6,
+            Kind::Neighbor => 7,
+            Kind::NextHop => 8,
+            Kind::Group => 9,
+            Kind::GroupMember => 10,
+            Kind::Route => 11,
         }
     }
 }

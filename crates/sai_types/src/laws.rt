@@ -17,10 +17,11 @@ ghost use Rattle.sai_types.specs.Forwarding.{decide};
 ghost use Rattle.std.specs.Ordering.{ordering_then};
 ghost use Rattle.std.specs.declared.cmp.Ordering.{Ordering};
 ghost use Rattle.sai_types.specs.declared.hop.Hop.{Hop};
-ghost use Rattle.sai_types.specs.Order.{hop_order, thing_order};
+ghost use Rattle.sai_types.specs.declared.weight.WHop.{WHop};
+ghost use Rattle.sai_types.specs.Order.{hop_order, thing_order, whop_order};
 ghost use Rattle.sai_types.specs.Made.{AreLegal, AreSorted, HaveLanes, HaveOneEach, IsWhole, entry_named, made_after, made_after_all, same_entry};
 
-use crate::{Hop, Thing};
+use crate::{Hop, Thing, WHop};
 
 /// An object that was made is found under its entry.
 pub fn made_is_found()
@@ -73,15 +74,18 @@ pub fn keys_are_taken_once()
     ensures { (made : ℕ) (objects : Objects) → IsWhole made objects → HaveLanes objects → HaveOneEach objects }
 {}
 
-/// Things decide an address alike where they hold it as an own address alike, and the same routes that cover it, in
-/// whatever order. So an address has one answer, and stays decided as it was while no route that covers it changes.
+/// Things decide a packet alike where they hold its address as an own address of its router alike, and the same routes of
+/// that router that cover it, in whatever order. So a packet has one answer, and stays decided as it was while no route of
+/// its router that covers its address changes.
 pub fn decided_by_what_stands()
     ensures { (things others : List Thing) (a : Packet) → AreRoutes others → DecideAlike things others a → decide things a ≡ decide others a }
 {}
 
-/// Hops are ordered by what their interfaces stand on, ports before VLANs, and then by address. Things are ordered by
-/// their kinds, as the chip's table has them, then by their natural keys, and then by what can be set on them.
+/// Hops are ordered by what their interfaces stand on, ports before VLANs, and then by address; with their weights, by the
+/// hop and then by the weight. Things are ordered by their kinds, as the chip's table has them, then by their natural
+/// keys, and then by what else they have: the router of an interface, and what can be set on them.
 pub fn hops_and_things_are_ordered()
     ensures hops { (a b : Hop) → ⟦<Hop as Ord>⟧.cmp a b ≡ hop_order a b }
+    ensures weighed { (a b : WHop) → ⟦<WHop as Ord>⟧.cmp a b ≡ whop_order a b }
     ensures things { (t u : Thing) → (rest : Ordering) × (⟦<Thing as Ord>⟧.cmp t u ≡ ordering_then (thing_order t u) rest) }
 {}

@@ -2,7 +2,7 @@
 ghost use Rattle.std.specs.Prelude.{◌≡◌, IfOk};
 
 use crate::{Base, Hop, Hops, WHop};
-use swss_types::{Ip, Lanes, Mac, OutOfMemory, Prefix, Tagging};
+use swss_types::{Ip, Lanes, Mac, OutOfMemory, Prefix, Tagging, Vrf, VrfName};
 
 /// Where a route sends its packets.
 #[derive(Debug, PartialEq, Eq, PartialOrd, Ord, Drop)]
@@ -37,14 +37,16 @@ pub enum Thing {
     Port(PortThing),
     /// A VLAN, by its number.
     Vlan(u16),
+    /// A virtual router, by its label.
+    VirtualRouter(VrfName),
     /// A bridge port, by its port's first lane.
     BridgePort(u16),
     /// A member of a VLAN: the VLAN, the port's first lane, the tagging.
     VlanMember(u16, u16, Tagging),
-    /// A router interface.
-    Rif(Base),
-    /// An address of the switch itself.
-    Own(Ip),
+    /// A router interface, and the virtual router that it is in.
+    Rif(Base, Vrf),
+    /// An address of the switch itself, in a virtual router.
+    Own(Vrf, Ip),
     /// A neighbour with its Ethernet address.
     Neighbor(Hop, Mac),
     /// A next hop.
@@ -53,8 +55,8 @@ pub enum Thing {
     Group(Hops),
     /// A hop in a group.
     GroupMember(Hops, WHop),
-    /// A route.
-    Route(Prefix, Goal),
+    /// A route, in a virtual router.
+    Route(Vrf, Prefix, Goal),
 }
 
 impl Goal {
@@ -93,15 +95,16 @@ impl Thing {
         Ok(match self {
             Thing::Port(port) => Thing::Port(port.copy()?),
             Thing::Vlan(vlan) => Thing::Vlan(*vlan),
+            Thing::VirtualRouter(label) => Thing::VirtualRouter(*label),
             Thing::BridgePort(port) => Thing::BridgePort(*port),
             Thing::VlanMember(vlan, port, tagging) => Thing::VlanMember(*vlan, *port, *tagging),
-            Thing::Rif(base) => Thing::Rif(*base),
-            Thing::Own(ip) => Thing::Own(*ip),
+            Thing::Rif(base, vrf) => Thing::Rif(*base, *vrf),
+            Thing::Own(vrf, ip) => Thing::Own(*vrf, *ip),
             Thing::Neighbor(hop, mac) => Thing::Neighbor(*hop, *mac),
             Thing::NextHop(hop) => Thing::NextHop(*hop),
             Thing::Group(hops) => Thing::Group(hops.copy()?),
             Thing::GroupMember(hops, hop) => Thing::GroupMember(hops.copy()?, *hop),
-            Thing::Route(prefix, goal) => Thing::Route(*prefix, goal.copy()?),
+            Thing::Route(vrf, prefix, goal) => Thing::Route(*vrf, *prefix, goal.copy()?),
         })
     }
 }

@@ -71,9 +71,9 @@ module _ (view view' : ViewObjects) (made : ℕ) where
     follow (call.Create b) d answer.Done h f ties = nothing_made a (call.Create b) (ap vid_made_by f.3) ties
     follow (call.Set e x) d answer.Done h f ties = nothing_made a (call.Set e x) (ap vid_made_by f.1) ties
     follow (call.Remove (entry.Oid v)) d answer.Done h f ties = lost v a (ap vid_made_by f.1) ties
-    follow (call.Remove (entry.Own ip)) d answer.Done h f ties = nothing_made a (call.Remove (entry.Own ip)) (ap vid_made_by f.1) ties
+    follow (call.Remove (entry.Own vr ip)) d answer.Done h f ties = nothing_made a (call.Remove (entry.Own vr ip)) (ap vid_made_by f.1) ties
     follow (call.Remove (entry.Neigh v ip)) d answer.Done h f ties = nothing_made a (call.Remove (entry.Neigh v ip)) (ap vid_made_by f.1) ties
-    follow (call.Remove (entry.Route prefix)) d answer.Done h f ties = nothing_made a (call.Remove (entry.Route prefix)) (ap vid_made_by f.1) ties
+    follow (call.Remove (entry.Route vr prefix)) d answer.Done h f ties = nothing_made a (call.Remove (entry.Route vr prefix)) (ap vid_made_by f.1) ties
     follow (call.Create b) d answer.Failed h f ties = absurd (went f.1)
     follow (call.Set e x) d answer.Failed h f ties = absurd (went f.1)
     follow (call.Remove e) d answer.Failed h f ties = absurd (went f.1)

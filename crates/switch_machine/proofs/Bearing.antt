@@ -1,6 +1,7 @@
 -- of a route's changes one at most bears on where packets go
 use Rattle.std.proofs.Common.{◌≡◌, ◌⊎◌, ◌∷◌, ◌++◌, ◌∙◌, inl, inr, Bool, true, false, List, [], Option, None, Some, if◌then◌else◌, refl, sym, ap, ap₂, subst}
 use Rattle.swss_types.specs.declared.address.Prefix.{Prefix}
+use Rattle.swss_types.specs.declared.vrf.Vrf.TheVariants as vrf
 use Rattle.table_schema.specs.Plan.{Ports}
 use Rattle.table_schema.specs.declared.key.Key.TheVariants as key
 use Rattle.table_schema.specs.declared.row.Row.{Row}
@@ -97,9 +98,9 @@ build_apart (o ∷ os) rest = ap (make_all (shared_things o)) (build_apart os re
 
 module _ (plan : Ports) (prefix : Prefix) where
   abbrev IsOne : List Thing → Type 0
-  IsOne ts = (ts ≡ []) ⊎ ((g : Goal) × (ts ≡ thing.Route prefix g ∷ []))
+  IsOne ts = (ts ≡ []) ⊎ ((g : Goal) × (ts ≡ thing.Route vrf.Default prefix g ∷ []))
 
-  from_goal : (o : Option Goal) → IsOne (from o (λ g. thing.Route prefix g ∷ []))
+  from_goal : (o : Option Goal) → IsOne (from o (λ g. thing.Route vrf.Default prefix g ∷ []))
   from_goal None = inl refl
   from_goal (Some g) = inr (g, refl)
 
@@ -108,24 +109,24 @@ module _ (plan : Ports) (prefix : Prefix) where
   own_one _ = inl refl
 
   abbrev IsOnce : List Change → Type 0
-  IsOnce cs = (cs ≡ []) ⊎ ((c : Change) × (cs ≡ c ∷ []) × (changed_name c ≡ name.Route prefix))
+  IsOnce cs = (cs ≡ []) ⊎ ((c : Change) × (cs ≡ c ∷ []) × (changed_name c ≡ name.Route vrf.Default prefix))
 
   made : (ts : List Thing) → IsOne ts → IsOnce (make_all ts [])
   made ts (inl e) = inl (ap (λ z. make_all z []) e)
-  made ts (inr (g, e)) = inr (Make (thing.Route prefix g), ap (λ z. make_all z []) e, refl)
+  made ts (inr (g, e)) = inr (Make (thing.Route vrf.Default prefix g), ap (λ z. make_all z []) e, refl)
 
   taken : (ts : List Thing) → IsOne ts → IsOnce (take_all ts [])
   taken ts (inl e) = inl (ap (λ z. take_all z []) e)
-  taken ts (inr (g, e)) = inr (Take (name.Route prefix), ap (λ z. take_all z []) e, refl)
+  taken ts (inr (g, e)) = inr (Take (name.Route vrf.Default prefix), ap (λ z. take_all z []) e, refl)
 
-  set_one : (b : Bool) (g : Goal) → IsOnce (if b then [] else Set (thing.Route prefix g) ∷ [])
+  set_one : (b : Bool) (g : Goal) → IsOnce (if b then [] else Set (thing.Route vrf.Default prefix g) ∷ [])
   set_one true g = inl refl
-  set_one false g = inr (Set (thing.Route prefix g), refl, refl)
+  set_one false g = inr (Set (thing.Route vrf.Default prefix g), refl, refl)
 
   sets : (ts us : List Thing) → IsOne ts → IsOne us → IsOnce (set_all ts us)
   sets ts us (inl e) _ = inl (ap (λ z. set_all z us) e)
   sets ts us (inr (g, e)) (inl h) = inl (ap₂ set_all e h)
-  sets ts us (inr (g, e)) (inr (i, h)) = subst IsOnce (sym (ap₂ set_all e h)) (set_one (same_thing (thing.Route prefix g) (thing.Route prefix i)) i)
+  sets ts us (inr (g, e)) (inr (i, h)) = subst IsOnce (sym (ap₂ set_all e h)) (set_one (same_thing (thing.Route vrf.Default prefix g) (thing.Route vrf.Default prefix i)) i)
 
   own_once : (old new : Option Row) → IsOnce (own_changes plan (key.Route prefix) old new)
   own_once None None = inl refl
@@ -133,7 +134,7 @@ module _ (plan : Ports) (prefix : Prefix) where
   own_once (Some a) None = taken (own_things plan (key.Route prefix) a) (own_one a)
   own_once (Some a) (Some r) = sets (own_things plan (key.Route prefix) a) (own_things plan (key.Route prefix) r) (own_one a) (own_one r)
 
-  pub bears-once : (old new : Option Row) (used : Owner → Bool) → BearsOnce (name.Route prefix) (changes_of plan (key.Route prefix) old new used)
+  pub bears-once : (old new : Option Row) (used : Owner → Bool) → BearsOnce (name.Route vrf.Default prefix) (changes_of plan (key.Route prefix) old new used)
   bears-once old new used = record {
     before = build_all builds [];
     middle = own_changes plan (key.Route prefix) old new;

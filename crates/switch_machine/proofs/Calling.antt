@@ -1,6 +1,7 @@
 -- the call of a change that is due is legal, and leaves the layout of what stands then
 use Rattle.std.proofs.Common.{◌≡◌, ◌⊎◌, ◌+◌, ◌∷◌, ◌∙◌, inl, inr, ℕ, true, List, [], Option, None, Some, refl, sym, ap, ap₂, subst}
 use Rattle.swss_types.specs.declared.address.Mac.{Mac}
+use Rattle.swss_types.specs.declared.vrf.Vrf.TheVariants as vrf
 use Rattle.table_schema.specs.Plan.{Ports, IsPlan, lanes_in_plan}
 use Rattle.table_schema.specs.declared.key.Key.{Key}
 use Rattle.table_schema.specs.declared.key.Key.TheVariants as key
@@ -40,20 +41,21 @@ use Rattle.row_layout.specs.Shared.{shared_things, uses}
 use Rattle.row_layout.proofs.Members.{from_in}
 use Rattle.switch_model.proofs.Planned.{one-planned}
 use Rattle.switch_machine.specs.Changes.{IsMakeCall, IsSamePort, IsSetCall, IsSettable, IsTakeCall}
-use Rattle.switch_machine.specs.Flights.{CanMake, CanSet, CanTake, Fits, MachineFlight, Goes, HasName, IsConcern, IsFinal, IsOwnedBy, IsShared, IsUser, IsRow, Machine, StandsIn}
+use Rattle.switch_machine.specs.Flights.{CanMake, CanSet, CanTake, Fits, MachineFlight, Goes, HasName, IsConcern, IsFinal, IsOwnedBy, IsShared, IsRow, Machine, StandsIn}
 use Rattle.row_layout.specs.Operations.{uses_of}
-use Rattle.switch_machine.specs.Consistent.{IsUsedOrRetired, IsLike, IsConsistent}
+use Rattle.switch_machine.specs.Consistent.{IsLike, IsConsistent}
 use Rattle.switch_machine.specs.Tables.{IsNamed, TableLaws}
 use Rattle.switch_machine.proofs.Running.{one_owner, row_keys, shared_row}
 use Rattle.switch_machine.proofs.Moving.{fit_of}
 use Rattle.switch_machine.proofs.Splits.{own_row_in, use_row_in}
 use Rattle.switch_machine.proofs.Ordered.{group_rising}
+use Rattle.switch_machine.proofs.Standing.{held_row}
 use Rattle.switch_machine.proofs.Tabled.{member_hop}
 
 pub sort_of : (o : Owner) → IsShared o ⊎ ((k : Key) × (o ≡ OfRow k))
 sort_of (owner.OfRow k) = inr (k, refl)
 sort_of (owner.Bridge lane) = inl tt
-sort_of (owner.Own ip) = inl tt
+sort_of (owner.Own v ip) = inl tt
 sort_of (owner.Group hops) = inl tt
 
 -- ---- ports and their lanes
@@ -74,7 +76,7 @@ no_member all (hop ∷ hops) p (inr h) = no_member all hops p h
 pub shared_no_port : (o : Owner) (p : PortThing) → IsIn (thing.Port p) (shared_things o) → ⊥
 shared_no_port (owner.OfRow k) p h = elim h [ ]
 shared_no_port (owner.Bridge lane) p h = not_this_port p (thing.BridgePort lane) h (λ e. cc)
-shared_no_port (owner.Own ip) p h = not_this_port p (thing.Own ip) h (λ e. cc)
+shared_no_port (owner.Own v ip) p h = not_this_port p (thing.Own v ip) h (λ e. cc)
 shared_no_port (owner.Group hops) p (inl h) = cc
 shared_no_port (owner.Group hops) p (inr h) = no_member hops hops p h
 
@@ -90,13 +92,13 @@ pub port_planned : (plan : Ports) (k : Key) (r : Row) (p : PortThing) → Fits p
 port_planned plan (key.Port q) (row.Port r) p fit h = (q, fit ∙ ap Some (sym (port_in p (record { lanes = r.lanes; speed = r.speed; mtu = r.mtu; up = r.up }) (from_in (lane_of plan q) _ (thing.Port p) h).2)))
 port_planned plan (key.Vlan v) row.Vlan p fit h = not_this_port p (thing.Vlan v) h (λ e. cc)
 port_planned plan (key.Member v q) (row.Member t) p fit h = absurd (none_from (lane_of plan q) (λ lane. thing.VlanMember v lane t ∷ []) (thing.Port p) (λ lane x. not_this_port p (thing.VlanMember v lane t) x (λ e. cc)) h)
-port_planned plan (key.Intf n) row.Intf p fit h = absurd (none_from (base_of plan n) (λ b. thing.Rif b ∷ []) (thing.Port p) (λ b x. not_this_port p (thing.Rif b) x (λ e. cc)) h)
+port_planned plan (key.Intf n) row.Intf p fit h = absurd (none_from (base_of plan n) (λ b. thing.Rif b vrf.Default ∷ []) (thing.Port p) (λ b x. not_this_port p (thing.Rif b vrf.Default) x (λ e. cc)) h)
 port_planned plan (key.Neigh n ip) (row.Neigh mac) p fit h = absurd (none_from (base_of plan n) (λ b. thing.Neighbor (record { on = b; ip = ip }) mac ∷ thing.NextHop (record { on = b; ip = ip }) ∷ []) (thing.Port p) (λ b x. neither (record { on = b; ip = ip }) mac x) h)
   where
     neither : (hop : Hop) (mac : Mac) → IsIn (thing.Port p) (thing.Neighbor hop mac ∷ thing.NextHop hop ∷ []) → ⊥
     neither hop mac (inl h) = cc
     neither hop mac (inr h) = not_this_port p (thing.NextHop hop) h (λ e. cc)
-port_planned plan (key.Route prefix) (row.Route r) p fit h = absurd (none_from (goal_of plan r) (λ g. thing.Route prefix g ∷ []) (thing.Port p) (λ g x. not_this_port p (thing.Route prefix g) x (λ e. cc)) h)
+port_planned plan (key.Route prefix) (row.Route r) p fit h = absurd (none_from (goal_of plan r) (λ g. thing.Route vrf.Default prefix g ∷ []) (thing.Port p) (λ g x. not_this_port p (thing.Route vrf.Default prefix g) x (λ e. cc)) h)
 port_planned plan _ _ p fit h = elim h [ ]
 
 pub port_like : (plan : Ports) (k : Key) (r : Row) (t : Thing) (q : PortThing) → Fits plan k r → IsIn t (own_things plan k r) → (thing.Port q ≡ t) ⊎ IsSamePort (thing.Port q) t → IsPlannedPort plan q.lanes
@@ -160,28 +162,18 @@ module _ (plan : Ports) (is : IsPlan plan) (tables : TableLaws plan) (m : Machin
       by : (o : Owner) → IsOwnedBy plan (name_of (thing.Port q)) o → IsPlannedPort plan q.lanes
       by (owner.OfRow k) of = of_like k (sound.like k (thing.Port q) h of)
       by (owner.Bridge lane) of = absurd (shared_no_port (owner.Bridge lane) q (sound.held (owner.Bridge lane) (thing.Port q) h of tt).0)
-      by (owner.Own ip) of = absurd (shared_no_port (owner.Own ip) q (sound.held (owner.Own ip) (thing.Port q) h of tt).0)
+      by (owner.Own v ip) of = absurd (shared_no_port (owner.Own v ip) q (sound.held (owner.Own v ip) (thing.Port q) h of tt).0)
       by (owner.Group hops) of = absurd (shared_no_port (owner.Group hops) q (sound.held (owner.Group hops) (thing.Port q) h of tt).0)
 
   final_planned : (p : PortThing) → IsFinal plan f (thing.Port p) → IsPlannedPort plan p.lanes
   final_planned p (inl h) = let r = own_row_in plan f.key f.new (thing.Port p) h in port_planned plan f.key r.0 p (fits r.0 r.1) r.2
   final_planned p (inr h) = absurd (shared_no_port h.0 p h.2)
 
-  -- a row uses what is held
-  user_row : (k : Key) (o : Owner) → IsUser plan m.board k o → (r : Row) × IsRow m.board k r × IsIn o (uses plan k r)
-  user_row k o (inr (rests, h)) = let r = use_row_in plan k (m.board.applied k) o h in (r.0, inl r.1, r.2)
-  user_row k o (inl (v, g, at, is, inl h)) = let r = use_row_in plan g.key g.new o h in (r.0, inr (v, g, at, is, r.1), subst (λ q. IsIn o (uses plan q r.0)) is r.2)
-  user_row k o (inl (v, g, at, is, inr h)) = let was = (sound.board.leaves v g o at h).0 in (was.row, inl (subst (λ q. m.board.applied q ≡ Some was.row) is was.was), subst (λ q. IsIn o (uses plan q was.row)) is was.used)
-
-  held_row : (o : Owner) → IsUsedOrRetired plan m.board o → (k : Key) × (r : Row) × IsRow m.board k r × IsIn o (uses plan k r)
-  held_row o (inl (k, user)) = let x = user_row k o user in (k, x.0, x.1, x.2)
-  held_row o (inr (v, g, at, retires)) = let was = sound.board.left v g o at retires in (g.key, was.row, inl was.was, was.used)
-
   -- a member that stands is one of a group that a row uses, whose hops rise
   hops_rising : (all : List WHop) (x : WHop) → StandsIn m (thing.GroupMember all x) → AreRisingHops all
   hops_rising all x h =
       let held = sound.held (owner.Group all) (thing.GroupMember all x) h refl tt in
-      let r = held_row (owner.Group all) held.1 in
+      let r = held_row plan m sound (owner.Group all) held.1 in
       group_rising plan r.0 r.1 (owner.Group all) all r.3 refl
 
   in_things : (all : List WHop) (x : WHop) → IsIn (thing.GroupMember all x) (shared_things (owner.Group all)) → IsIn x all
@@ -236,8 +228,8 @@ module _ (plan : Ports) (is : IsPlan plan) (tables : TableLaws plan) (m : Machin
   has_attr (thing.Port p) u (inr (inr h)) f = (attr.Up h.0, h.1)
   has_attr (thing.VlanMember v l x) u h f = (attr.Tagging h.0, h.1)
   has_attr (thing.Neighbor hop mac) u h f = (attr.Mac h.0, h.1)
-  has_attr (thing.Route prefix g) u h f =
-      let at = at_goal L (goal_name h.0) (λ n e. f n (subst (λ z. Refers z n) (sym h.1) (first-refers (thing.Route prefix h.0) n e))) in
+  has_attr (thing.Route v prefix g) u h f =
+      let at = at_goal L (goal_name h.0) (λ n e. f n (subst (λ z. Refers z n) (sym h.1) (first-refers (thing.Route v prefix h.0) n e))) in
       (attr.To (to_with h.0 at.0), (h.0, at.0, at.1, refl, h.1))
   has_attr _ u h f = elim h [ ]
 
@@ -272,7 +264,7 @@ module _ (plan : Ports) (is : IsPlan plan) (tables : TableLaws plan) (m : Machin
   unused_by : (n : ThingName) (u : Thing) → CanTake plan f (StandsIn m) n → StandsIn m u → Refers u n → (o : Owner) → IsOwnedBy plan (name_of u) o → IsShared o ⊎ ((k : Key) × (o ≡ OfRow k)) → ⊥
   unused_by n u can h refers o of (inl shared) =
       let x = sound.held o u h of shared in
-      let r = held_row o x.1 in
+      let r = held_row plan m sound o x.1 in
       by can.goes r (tables.shared_refers r.0 r.1 o u n (sound.board.fit r.0 r.1 r.2) r.3 x.0 refers)
     where
       at_own : Goes plan f n → IsOwnedBy plan n o → ⊥

@@ -1,5 +1,5 @@
 -- a key that nothing hinders may begin, and there is room for it or a first kind lacks it
-use Rattle.std.proofs.Common.{◌≡◌, ◌⊎◌, ◌+◌, ◌<◌, ◌≤◌, ◌∷◌, ◌∙◌, inl, inr, ℕ, zero, suc, Bool, true, false, List, [], Option, None, Some, get_or, is_some, refl, sym, ap, ap₂, subst, arith}
+use Rattle.std.proofs.Common.{◌≡◌, ◌⊎◌, ◌+◌, ◌<◌, ◌≤◌, ◌∷◌, ◌∙◌, inl, inr, ℕ, zero, suc, Bool, true, false, List, [], length, Option, None, Some, get_or, is_some, refl, sym, ap, ap₂, subst, arith}
 use Rattle.std.proofs.lemmas.Bool.{and_parts, cases_order}
 use Rattle.std.proofs.lemmas.Option.{same_Some}
 use Rattle.table_schema.specs.Names.{names_of}
@@ -13,8 +13,10 @@ use Rattle.sai_types.specs.declared.thing.Thing.{Thing}
 use Rattle.sai_types.specs.declared.thing.Thing.TheVariants as thing
 use Rattle.sai_types.specs.contracts.thing.ThingEq.TheImpl.Laws as equal_thing
 use Rattle.sai_types.specs.Alike.{IsIn}
+use Rattle.sai_types.specs.Kinds.{all_kinds}
 use Rattle.sai_types.specs.Objects.{level, used}
 use Rattle.sai_types.specs.Refusal.{capacity_of}
+use Rattle.sai_types.proofs.Levels.{level_within}
 use Rattle.switch_model.specs.Desired.{have_rows}
 use Rattle.switch_model.specs.Good.{TypedRows}
 use Rattle.row_layout.specs.Operations.{Change, going, own_changes, same_thing, uses_of}
@@ -28,7 +30,7 @@ use Rattle.switch_machine.specs.Operations.{MayBegin, built_first}
 use Rattle.switch_machine.specs.Places.{HasRoomFor, makes, places_kept}
 use Rattle.switch_machine.specs.Reasons.{IsInTheWay, IsRowPrepared, LacksRoom}
 use Rattle.switch_machine.specs.Written.{good_of}
-use Rattle.switch_machine.proofs.Equal.{thing-exact}
+use Rattle.sai_types.proofs.Equal.{thing-exact}
 use Rattle.switch_machine.proofs.Kept.{no_makes}
 use Rattle.switch_machine.proofs.Sequence.{IsShort, uses_short}
 use Rattle.switch_machine.proofs.Single.{kind_at, kind_low, kinds}
@@ -69,7 +71,7 @@ listed_split (x ∷ xs) u = by (thing_split x.1 u) (listed_split xs u)
 pub first_shared : (o : Owner) → IsShared o → (u : Thing) × IsIn u (shared_things o)
 first_shared (owner.OfRow k) h = elim h [ ]
 first_shared (owner.Bridge lane) h = (thing.BridgePort lane, inl refl)
-first_shared (owner.Own ip) h = (thing.Own ip, inl refl)
+first_shared (owner.Own v ip) h = (thing.Own v ip, inl refl)
 first_shared (owner.Group hops) h = (thing.Group hops, inl refl)
 
 owner_in_split : (o : Owner) (os : List Owner) → IsShort os → IsOr (IsIn o os)
@@ -269,19 +271,6 @@ module _ (plan : Ports) (is : IsPlan plan) (workers : ℕ) (capacities : List �
               lower low h (inl roomy) = roomy
               lower low h (inr more) = absurd (omega (arith, more, kind_low n))
 
-  all_below : (low : Kind) → level low < 11
-  all_below kind.Port = omega arith
-  all_below kind.Vlan = omega arith
-  all_below kind.BridgePort = omega arith
-  all_below kind.VlanMember = omega arith
-  all_below kind.Rif = omega arith
-  all_below kind.OwnAddress = omega arith
-  all_below kind.Neighbor = omega arith
-  all_below kind.NextHop = omega arith
-  all_below kind.Group = omega arith
-  all_below kind.GroupMember = omega arith
-  all_below kind.Route = omega arith
-
   none_made : (low : Kind) → new ≡ None → makes low due ≡ 0
   none_made low e = ap (makes low) (ap₂ built_first (no_build building.builds refl) (ap (own_changes plan k (s.machine.board.applied k)) e)) ∙ taken (s.machine.board.applied k)
     where
@@ -294,9 +283,9 @@ module _ (plan : Ports) (is : IsPlan plan) (workers : ℕ) (capacities : List �
       taken (Some a) = no_makes low (going plan k a)
 
   pub room-or-none : HasRoomFor workers capacities s.objects s.machine due ⊎ ((low : Kind) × LacksRoom plan workers capacities s k low)
-  room-or-none = by new refl (search_kinds 11)
+  room-or-none = by new refl (search_kinds (length all_kinds))
     where
-      by : (n : Option Row) → new ≡ n → ((low : Kind) → level low < 11 → IsRoomy low) ⊎ ((low : Kind) × IsFirstLacking low) → HasRoomFor workers capacities s.objects s.machine due ⊎ ((low : Kind) × LacksRoom plan workers capacities s k low)
-      by n e (inl roomy) = inl (λ low some. roomy low (all_below low) some)
+      by : (n : Option Row) → new ≡ n → ((low : Kind) → level low < length all_kinds → IsRoomy low) ⊎ ((low : Kind) × IsFirstLacking low) → HasRoomFor workers capacities s.objects s.machine due ⊎ ((low : Kind) × LacksRoom plan workers capacities s k low)
+      by n e (inl roomy) = inl (λ low some. roomy low (level_within low) some)
       by None e (inr (low, (some, many, lower))) = let none = none_made low e in absurd (omega (arith, none, some))
       by (Some r) e (inr (low, (some, many, lower))) = inr (low, record { worker = w; flight = flight; due = due; begins = may-begin; is = refl; row = r; new = e; good = e; some = some; many = many; lower = lower })

@@ -1,11 +1,11 @@
 pub mod Splits
-pub mod Equal
 pub mod Running
 pub mod Moving
 pub mod Starting
 pub mod Leaving
 pub mod Ending
 pub mod Tabled
+pub mod Standing
 pub mod Calling
 pub mod Resting
 pub mod Operating

@@ -4,6 +4,7 @@ use Rattle.swss_types.specs.declared.address.Ip.{Ip}
 use Rattle.swss_types.specs.declared.address.Prefix.{Prefix}
 use Rattle.swss_types.specs.declared.address.Family.TheVariants.{V4}
 use Rattle.swss_types.specs.declared.interface.IfName.TheVariants as on
+use Rattle.swss_types.specs.declared.vrf.Vrf.TheVariants as vrf
 use Rattle.swss_types.specs.declared.tagging.Tagging.TheVariants.{Tagged}
 use Rattle.table_schema.specs.Plan.{Ports, port_named}
 use Rattle.table_schema.specs.declared.key.Key.{Key}
@@ -56,14 +57,14 @@ shared_address (key.Addr (on.Vlan v) ip len) = Some row.Addr
 shared_address _ = None
 
 abbrev retiring_address : MachineBoard
-retiring_address = record { applied = shared_address; flights = put 0 (Some (record { key = key.Addr (on.Vlan 5) one_ip 24; new = None; leaves = None; retires = Some (owner.Own one_ip); goes = true })) (λ w. None) }
+retiring_address = record { applied = shared_address; flights = put 0 (Some (record { key = key.Addr (on.Vlan 5) one_ip 24; new = None; leaves = None; retires = Some (owner.Own vrf.Default one_ip); goes = true })) (λ w. None) }
 
-other_rests : (w : ℕ) (f : MachineFlight) → IsPut 0 w (Some (record { key = key.Addr (on.Vlan 5) one_ip 24; new = None; leaves = None; retires = Some (owner.Own one_ip); goes = true })) (λ v. None) (Some f) → f.key ≡ key.Addr (on.Vlan 6) one_ip 24 → ⊥
+other_rests : (w : ℕ) (f : MachineFlight) → IsPut 0 w (Some (record { key = key.Addr (on.Vlan 5) one_ip 24; new = None; leaves = None; retires = Some (owner.Own vrf.Default one_ip); goes = true })) (λ v. None) (Some f) → f.key ≡ key.Addr (on.Vlan 6) one_ip 24 → ⊥
 other_rests w f (New same e) is = absurd (let one : key.Addr (on.Vlan 5) one_ip 24 ≡ f.key = cc in let two = one ∙ is in cc)
 other_rests w f (Old other e) is = absurd cc
 
 used-address_stays : (plan : Ports) → IsOrderly plan retiring_address → ⊥
-used-address_stays plan x = x.unused 0 (record { key = key.Addr (on.Vlan 5) one_ip 24; new = None; leaves = None; retires = Some (owner.Own one_ip); goes = true }) (key.Addr (on.Vlan 6) one_ip 24) (owner.Own one_ip) refl refl (inr ((λ w f at is. other_rests w f (put_by 0 w (Some (record { key = key.Addr (on.Vlan 5) one_ip 24; new = None; leaves = None; retires = Some (owner.Own one_ip); goes = true })) (λ v. None) (Some f) at) is), inl refl))
+used-address_stays plan x = x.unused 0 (record { key = key.Addr (on.Vlan 5) one_ip 24; new = None; leaves = None; retires = Some (owner.Own vrf.Default one_ip); goes = true }) (key.Addr (on.Vlan 6) one_ip 24) (owner.Own vrf.Default one_ip) refl refl (inr ((λ w f at is. other_rests w f (put_by 0 w (Some (record { key = key.Addr (on.Vlan 5) one_ip 24; new = None; leaves = None; retires = Some (owner.Own vrf.Default one_ip); goes = true })) (λ v. None) (Some f) at) is), inl refl))
 
 -- ---- two operations have one key
 
@@ -114,10 +115,10 @@ abbrev id_of : ℕ → Rid
 id_of n = record { 0 = n }
 
 abbrev half_built : Machine
-half_built = record { board = empty_machine.board; due = λ w. []; reserved = λ w. []; stands = (id_of 0, thing.Route all_routes (goal.Group two_hops)) ∷ (id_of 1, thing.Group two_hops) ∷ (id_of 2, thing.GroupMember two_hops (hop_on 1)) ∷ [] }
+half_built = record { board = empty_machine.board; due = λ w. []; reserved = λ w. []; stands = (id_of 0, thing.Route vrf.Default all_routes (goal.Group two_hops)) ∷ (id_of 1, thing.Group two_hops) ∷ (id_of 2, thing.GroupMember two_hops (hop_on 1)) ∷ [] }
 
 last-member_stands : (plan : Ports) → IsConsistent plan half_built → ⊥
-last-member_stands plan x = none (x.steady (key.Route all_routes) (owner.Group two_hops) (thing.Route all_routes (goal.Group two_hops)) (thing.GroupMember two_hops (hop_on 2)) (name.Group two_hops) (id_of 0, inl refl) refl (inl refl) refl tt (inr (inr (inl refl))))
+last-member_stands plan x = none (x.steady (key.Route all_routes) (owner.Group two_hops) (thing.Route vrf.Default all_routes (goal.Group two_hops)) (thing.GroupMember two_hops (hop_on 2)) (name.Group two_hops) (id_of 0, inl refl) refl (inl refl) refl tt (inr (inr (inl refl))))
   where
     none : StandsIn half_built (thing.GroupMember two_hops (hop_on 2)) → ⊥
     none (i, inl e) = let t = ap (λ (z : Rid × Thing). z.1) e in cc

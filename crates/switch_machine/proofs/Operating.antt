@@ -11,7 +11,7 @@ use Rattle.row_layout.specs.Operations.{Change, Set, going, make_all, same_thing
 use Rattle.switch_machine.specs.Changes.{IsSettable, Resembles}
 use Rattle.switch_machine.specs.Flights.{Concerns, Fits, MachineFlight, Goes, HasName, HasShared, IsConcern, IsFinal, IsOwnedBy, IsShared, Runs, own_of}
 use Rattle.switch_machine.specs.Tables.{AreNamedApart, ComesBefore, Orders, IsNamed, TableLaws}
-use Rattle.switch_machine.proofs.Equal.{thing-exact}
+use Rattle.sai_types.proofs.Equal.{thing-exact}
 use Rattle.switch_machine.proofs.Running.{no_retire, one_owner, own_row, row_keys, runs-same, settable_name, shared_of, shared_row}
 use Rattle.switch_machine.proofs.Splits.{own_row_in, use_row_in}
 

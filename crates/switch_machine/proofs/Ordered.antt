@@ -9,6 +9,8 @@ use Rattle.swss_types.specs.declared.address.Ip.{Ip}
 use Rattle.swss_types.specs.declared.address.Prefix.{Prefix}
 use Rattle.swss_types.specs.declared.address.Mac.{Mac}
 use Rattle.swss_types.specs.declared.interface.IfName.TheVariants as on
+use Rattle.swss_types.specs.declared.vrf.Vrf.{Vrf}
+use Rattle.swss_types.specs.declared.vrf.Vrf.TheVariants as vrf
 use Rattle.swss_types.proofs.Tied.{tied}
 use Rattle.table_schema.specs.Names.{names_of}
 use Rattle.table_schema.specs.Plan.{Ports, IsPlan}
@@ -120,9 +122,9 @@ own_apart_by : (plan : Ports) (k : Key) (r : Row) → AreNamedApart (own_things 
 own_apart_by plan (key.Port p) (row.Port r) = things_apart_from (lane_of plan p) _ (λ lane. one_apart (thing.Port (record { lanes = r.lanes; speed = r.speed; mtu = r.mtu; up = r.up })))
 own_apart_by plan (key.Vlan v) row.Vlan = one_apart (thing.Vlan v)
 own_apart_by plan (key.Member v p) (row.Member t) = things_apart_from (lane_of plan p) _ (λ lane. one_apart (thing.VlanMember v lane t))
-own_apart_by plan (key.Intf n) row.Intf = things_apart_from (base_of plan n) _ (λ b. one_apart (thing.Rif b))
+own_apart_by plan (key.Intf n) row.Intf = things_apart_from (base_of plan n) _ (λ b. one_apart (thing.Rif b vrf.Default))
 own_apart_by plan (key.Neigh n ip) (row.Neigh mac) = things_apart_from (base_of plan n) _ (λ b. two_apart (thing.Neighbor (record { on = b; ip = ip }) mac) (thing.NextHop (record { on = b; ip = ip })) (λ e. cc))
-own_apart_by plan (key.Route prefix) (row.Route r) = things_apart_from (goal_of plan r) _ (λ g. one_apart (thing.Route prefix g))
+own_apart_by plan (key.Route prefix) (row.Route r) = things_apart_from (goal_of plan r) _ (λ g. one_apart (thing.Route vrf.Default prefix g))
 own_apart_by plan _ _ = tt
 
 going_apart_by : (plan : Ports) (k : Key) (r : Row) → AreNamedApart (going plan k r)
@@ -179,9 +181,9 @@ going_by plan (key.Port p) (row.Port r) u t h g before = absurd (one_from (lane_
 going_by plan (key.Vlan v) row.Vlan u t h g (inl x) = elim x.1 [ ]
 going_by plan (key.Vlan v) row.Vlan u t h g (inr x) = elim x [ ]
 going_by plan (key.Member v p) (row.Member x) u t h g before = absurd (one_from (lane_of plan p) (λ lane. thing.VlanMember v lane x) (name_of t) u t before)
-going_by plan (key.Intf n) row.Intf u t h g before = absurd (one_from (base_of plan n) thing.Rif (name_of t) u t before)
+going_by plan (key.Intf n) row.Intf u t h g before = absurd (one_from (base_of plan n) (λ b. thing.Rif b vrf.Default) (name_of t) u t before)
 going_by plan (key.Neigh n ip) (row.Neigh mac) u t h g before = neigh_before (base_of plan n) ip mac u t h g before
-going_by plan (key.Route prefix) (row.Route r) u t h g before = absurd (one_from (goal_of plan r) (thing.Route prefix) (name_of t) u t before)
+going_by plan (key.Route prefix) (row.Route r) u t h g before = absurd (one_from (goal_of plan r) (thing.Route vrf.Default prefix) (name_of t) u t before)
 going_by plan _ _ u t h g before = elim h [ ]
 
 -- ---- groups
@@ -252,28 +254,29 @@ before_end (t ∷ ts) g y (inr h) = inr (before_end ts g y h)
 shared_apart_by : (plan : Ports) (k : Key) (r : Row) (o p : Owner) → IsIn o (uses plan k r) → o ≡ p → AreNamedApart (shared_things p)
 shared_apart_by plan k r o (owner.OfRow q) h e = tt
 shared_apart_by plan k r o (owner.Bridge lane) h e = one_apart (thing.BridgePort lane)
-shared_apart_by plan k r o (owner.Own ip) h e = one_apart (thing.Own ip)
+shared_apart_by plan k r o (owner.Own v ip) h e = one_apart (thing.Own v ip)
 shared_apart_by plan k r o (owner.Group hops) h e = (λ y in_it. group_apart hops y in_it, members_apart hops hops (group_rising plan k r o hops h e))
 
 shared_going_apart_by : (plan : Ports) (k : Key) (r : Row) (o p : Owner) → IsIn o (uses plan k r) → o ≡ p → AreNamedApart (shared_going p)
 shared_going_apart_by plan k r o (owner.OfRow q) h e = tt
 shared_going_apart_by plan k r o (owner.Bridge lane) h e = one_apart (thing.BridgePort lane)
-shared_going_apart_by plan k r o (owner.Own ip) h e = one_apart (thing.Own ip)
+shared_going_apart_by plan k r o (owner.Own v ip) h e = one_apart (thing.Own v ip)
 shared_going_apart_by plan k r o (owner.Group hops) h e = apart_end (members_of hops hops) (thing.Group hops) (members_apart hops hops (group_rising plan k r o hops h e)) (λ y in_it. group_apart hops y in_it)
 
 shared_same_by : (o : Owner) → AreSame (shared_going o) (shared_things o)
 shared_same_by (owner.Group hops) = record { into = end_in (members_of hops hops) (thing.Group hops); back = in_end_at (members_of hops hops) (thing.Group hops) }
 shared_same_by (owner.OfRow k) = all_same []
 shared_same_by (owner.Bridge lane) = all_same (thing.BridgePort lane ∷ [])
-shared_same_by (owner.Own ip) = all_same (thing.Own ip ∷ [])
+shared_same_by (owner.Own v ip) = all_same (thing.Own v ip ∷ [])
 
 -- ---- the order in which what is shared goes
 
 bridge_refers : (lane : ℕ) → Refers (thing.BridgePort lane) (name.BridgePort lane) → ⊥
 bridge_refers lane h = only (λ n. n ≡ name.BridgePort lane → ⊥) (name.BridgePort lane) (name.Port lane) (λ e. cc) h refl
 
-own_refers_none : (ip : Ip) (n : ThingName) → Refers (thing.Own ip) n → ⊥
-own_refers_none ip n h = elim h [ ]
+own_refers_own : (v : Vrf) (ip : Ip) → Refers (thing.Own v ip) (name.Own v ip) → ⊥
+own_refers_own vrf.Default ip h = elim h [ ]
+own_refers_own (vrf.Named label) ip h = only (λ n. n ≡ name.Own (vrf.Named label) ip → ⊥) (name.Own (vrf.Named label) ip) (name.VirtualRouter label) (λ e. cc) h refl
 
 group_refers_none : (hops : List WHop) (n : ThingName) → Refers (thing.Group hops) n → ⊥
 group_refers_none hops n h = elim h [ ]
@@ -286,8 +289,9 @@ shared_before_by (owner.OfRow k) u t h g refers = elim h [ ]
 shared_before_by (owner.Bridge lane) u t (inl h) (inl g) refers = absurd (bridge_refers lane (subst (λ z. Refers z (name.BridgePort lane)) h (subst (λ z. Refers u (name_of z)) g refers)))
 shared_before_by (owner.Bridge lane) u t (inr h) g refers = elim h [ ]
 shared_before_by (owner.Bridge lane) u t (inl h) (inr g) refers = elim g [ ]
-shared_before_by (owner.Own ip) u t (inl h) g refers = absurd (own_refers_none ip (name_of t) (subst (λ z. Refers z (name_of t)) h refers))
-shared_before_by (owner.Own ip) u t (inr h) g refers = elim h [ ]
+shared_before_by (owner.Own v ip) u t (inl h) (inl g) refers = absurd (own_refers_own v ip (subst (λ z. Refers z (name.Own v ip)) h (subst (λ z. Refers u (name_of z)) g refers)))
+shared_before_by (owner.Own v ip) u t (inl h) (inr g) refers = elim g [ ]
+shared_before_by (owner.Own v ip) u t (inr h) g refers = elim h [ ]
 shared_before_by (owner.Group hops) u t (inl h) g refers = absurd (group_refers_none hops (name_of t) (subst (λ z. Refers z (name_of t)) h refers))
 shared_before_by (owner.Group hops) u t (inr h) (inl g) refers = subst (λ z. ComesBefore (name_of u) z (members_of hops hops ++ (thing.Group hops ∷ []))) (sym g) (before_end (members_of hops hops) (thing.Group hops) u h)
 shared_before_by (owner.Group hops) u t (inr h) (inr g) refers =

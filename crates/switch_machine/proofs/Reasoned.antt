@@ -8,6 +8,7 @@ use Rattle.table_schema.specs.declared.key.Key.{Key}
 use Rattle.table_schema.specs.declared.key.Key.TheVariants as key
 use Rattle.table_schema.specs.declared.row.Row.{Row}
 use Rattle.swss_types.specs.declared.address.Prefix.{Prefix}
+use Rattle.swss_types.specs.declared.vrf.Vrf.{Vrf}
 use Rattle.sai_types.specs.declared.weight.WHop.{WHop}
 use Rattle.sai_types.specs.declared.kind.Kind.{Kind}
 use Rattle.sai_types.specs.declared.thing.Goal.{Goal}
@@ -34,6 +35,7 @@ use Rattle.switch_machine.specs.Reasons.{IsInTheWay, IsReason, LacksRoom}
 use Rattle.switch_machine.specs.Changes.{IsSamePort}
 use Rattle.switch_machine.specs.Consistent.{IsConsistent, IsLike}
 use Rattle.switch_machine.specs.Written.{good_of}
+use Rattle.switch_machine.proofs.Standing.{group_referred}
 use Rattle.switch_machine.proofs.Overflowing.{no-overflow, overflows}
 use Rattle.switch_machine.proofs.Tabled.{in_members, tabled}
 use Rattle.switch_machine.proofs.Calling.{make-has_call, set-has_call, take-has_call}
@@ -53,13 +55,13 @@ sum_none (suc n) f none =
     omega (arith, rest, last)
 
 -- a route that stands is that of a row of its key, applied or to be applied
-pub row-of_route : (plan : Ports) (m : Machine) → IsConsistent plan m → (prefix : Prefix) (g : Goal) → StandsIn m (thing.Route prefix g) → (r : Row) × IsRow m.board (key.Route prefix) r × IsIn (thing.Route prefix g) (own_things plan (key.Route prefix) r)
-row-of_route plan m sound prefix g h = by (sound.like (key.Route prefix) (thing.Route prefix g) h refl)
+pub row-of_route : (plan : Ports) (m : Machine) → IsConsistent plan m → (v : Vrf) (prefix : Prefix) (g : Goal) → StandsIn m (thing.Route v prefix g) → (r : Row) × IsRow m.board (key.Route prefix) r × IsIn (thing.Route v prefix g) (own_things plan (key.Route prefix) r)
+row-of_route plan m sound v prefix g h = by (sound.like (key.Route prefix) (thing.Route v prefix g) h refl)
   where
-    by : IsLike plan m.board (key.Route prefix) (thing.Route prefix g) → (r : Row) × IsRow m.board (key.Route prefix) r × IsIn (thing.Route prefix g) (own_things plan (key.Route prefix) r)
+    by : IsLike plan m.board (key.Route prefix) (thing.Route v prefix g) → (r : Row) × IsRow m.board (key.Route prefix) r × IsIn (thing.Route v prefix g) (own_things plan (key.Route prefix) r)
     by x = (x.row, x.is, in_it x x.resembles.same)
       where
-        in_it : (x : IsLike plan m.board (key.Route prefix) (thing.Route prefix g)) → (thing.Route prefix g ≡ x.thing) ⊎ IsSamePort (thing.Route prefix g) x.thing → IsIn (thing.Route prefix g) (own_things plan (key.Route prefix) x.row)
+        in_it : (x : IsLike plan m.board (key.Route prefix) (thing.Route v prefix g)) → (thing.Route v prefix g ≡ x.thing) ⊎ IsSamePort (thing.Route v prefix g) x.thing → IsIn (thing.Route v prefix g) (own_things plan (key.Route prefix) x.row)
         in_it x (inl same) = subst (λ z. IsIn z (own_things plan (key.Route prefix) x.row)) (sym same) x.of
         in_it x (inr h) = elim h [ ]
 
@@ -68,12 +70,12 @@ module _ (plan : Ports) (is : IsPlan plan) (workers : ℕ) (capacities : List �
   closed k r at = all_rows s.machine.board.applied (names_of k r) (λ p h. ap is_some (kept.sound.board.named k p r (inl at) h).applied)
 
   -- the group that a route points at has all its members
-  pub route-whole : (prefix : Prefix) (hops : List WHop) (hop : WHop) → StandsIn s.machine (thing.Route prefix (goal.Group hops)) → IsIn hop hops → StandsIn s.machine (thing.GroupMember hops hop)
-  route-whole prefix hops hop h in_it = kept.sound.steady (key.Route prefix) (owner.Group hops) (thing.Route prefix (goal.Group hops)) (thing.GroupMember hops hop) (name.Group hops) h refl (inl refl) refl tt (inr (in_members hops hops hop in_it))
+  pub route-whole : (v : Vrf) (prefix : Prefix) (hops : List WHop) (hop : WHop) → StandsIn s.machine (thing.Route v prefix (goal.Group hops)) → IsIn hop hops → StandsIn s.machine (thing.GroupMember hops hop)
+  route-whole v prefix hops hop h in_it = kept.sound.steady (key.Route prefix) (owner.Group hops) (thing.Route v prefix (goal.Group hops)) (thing.GroupMember hops hop) (name.Group hops) h refl (group_referred v prefix hops) refl tt (inr (in_members hops hops hop in_it))
 
   -- a route that stands is that of its key's applied row, or of the row that an operation brings
-  pub route-row : (prefix : Prefix) (g : Goal) → StandsIn s.machine (thing.Route prefix g) → (r : Row) × IsRow s.machine.board (key.Route prefix) r × IsIn (thing.Route prefix g) (own_things plan (key.Route prefix) r)
-  route-row prefix g h = row-of_route plan s.machine kept.sound prefix g h
+  pub route-row : (v : Vrf) (prefix : Prefix) (g : Goal) → StandsIn s.machine (thing.Route v prefix g) → (r : Row) × IsRow s.machine.board (key.Route prefix) r × IsIn (thing.Route v prefix g) (own_things plan (key.Route prefix) r)
+  route-row v prefix g h = row-of_route plan s.machine kept.sound v prefix g h
 
   -- what is due has a call
   pub has-call : (w : ℕ) (f : MachineFlight) (c : Change) (cs : List Change) → w < workers → s.machine.board.flights w ≡ Some f → s.machine.due w ≡ c ∷ cs → (call : Call Rid) × IsDueCall workers call s

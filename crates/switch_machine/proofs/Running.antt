@@ -62,7 +62,7 @@ settable_name (thing.Port p) u (inr (inl h)) = ap name_of h.1
 settable_name (thing.Port p) u (inr (inr h)) = ap name_of h.1
 settable_name (thing.VlanMember v l x) u h = ap name_of h.1
 settable_name (thing.Neighbor hop m) u h = ap name_of h.1
-settable_name (thing.Route p g) u h = ap name_of h.1
+settable_name (thing.Route v p g) u h = ap name_of h.1
 settable_name _ u h = elim h [ ]
 
 -- two views say the same

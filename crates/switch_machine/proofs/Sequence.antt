@@ -1,10 +1,12 @@
 -- an operation that runs alone makes its changes in the order of its table, and so far the first of them
-use Rattle.std.proofs.Common.{◌≡◌, ◌⊎◌, ◌||◌, ◌∷◌, ◌++◌, ◌∙◌, inl, inr, ℕ, Bool, true, false, List, [], Option, None, Some, if◌then◌else◌, refl, sym, ap, subst}
-use Rattle.std.proofs.lemmas.Bool.{cases_Bool, eqb-true, false≢true, or_cases}
+use Rattle.std.proofs.Common.{◌≡◌, ◌⊎◌, ◌||◌, ◌∷◌, ◌++◌, ◌∙◌, inl, inr, ℕ, Bool, true, false, List, [], Option, None, Some, if◌then◌else◌, refl, sym, ap, ap₂, subst}
+use Rattle.std.proofs.lemmas.Bool.{and_parts, cases_Bool, eqb-true, false≢true, or_cases}
 use Rattle.std.specs.List.{list_any}
 use Rattle.std.proofs.lemmas.List.{append-nil}
 use Rattle.std.proofs.lemmas.Option.{same_Some}
 use Rattle.swss_types.specs.declared.interface.IfName.TheVariants as on
+use Rattle.swss_types.specs.declared.vrf.Vrf.TheVariants as vrf
+use Rattle.swss_types.proofs.Routers.{vrf-exact}
 use Rattle.swss_types.proofs.Tied.{tied}
 use Rattle.table_schema.specs.Key.{key_cmp}
 use Rattle.table_schema.specs.Plan.{Ports}
@@ -32,7 +34,7 @@ use Rattle.switch_machine.specs.Events.{AreAnswers, Due, Ended, Follows, IsAnswe
 use Rattle.switch_machine.specs.Flights.{CountsAsUser, MachineFlight, IsResting, IsUser, Machine}
 use Rattle.switch_machine.specs.Operations.{IsUsedByOthers, built_first}
 use Rattle.switch_machine.specs.Steps.{finished, left, moved, parted, started}
-use Rattle.switch_machine.proofs.Equal.{thing-exact}
+use Rattle.sai_types.proofs.Equal.{thing-exact}
 use Rattle.switch_machine.proofs.Running.{no_flight}
 use Rattle.switch_machine.proofs.Splits.{IsPut, IsSplit, New, Old, key_split, put_at, put_by, use_row_in}
 
@@ -41,7 +43,7 @@ use Rattle.switch_machine.proofs.Splits.{IsPut, IsSplit, New, Old, key_split, pu
 pub owner_exact : (o p : Owner) → same_owner o p ≡ true → o ≡ p
 owner_exact (owner.OfRow k) (owner.OfRow q) h = ap owner.OfRow (key_exact k q (tied (key_cmp k q) h))
 owner_exact (owner.Bridge a) (owner.Bridge b) h = ap owner.Bridge (eqb-true a b h)
-owner_exact (owner.Own a) (owner.Own b) h = ap owner.Own (ip-exact a b h)
+owner_exact (owner.Own v a) (owner.Own w b) h = let parts = and_parts _ _ h in ap₂ owner.Own (vrf-exact v w parts.0) (ip-exact a b parts.1)
 owner_exact (owner.Group a) (owner.Group b) h = let same = thing-exact (thing.Group a) (thing.Group b) h in let that : a ≡ b = cc in ap owner.Group that
 owner_exact _ _ h = absurd (false≢true h)
 
@@ -69,9 +71,9 @@ group_short (Some (hop ∷ next ∷ hops)) = inr (owner.Group (hop ∷ next ∷ 
 
 row_short : (plan : Ports) (k : Key) (r : Row) → IsShort (uses plan k r)
 row_short plan (key.Member v p) (row.Member t) = from_short (lane_of plan p) owner.Bridge
-row_short plan (key.Addr (on.Ethernet p) ip len) row.Addr = from_short (lane_of plan p) (λ lane. owner.Own ip)
-row_short plan (key.Addr (on.Vlan v) ip len) row.Addr = inr (owner.Own ip, refl)
-row_short plan (key.Addr (on.Loopback n) ip len) row.Addr = inr (owner.Own ip, refl)
+row_short plan (key.Addr (on.Ethernet p) ip len) row.Addr = from_short (lane_of plan p) (λ lane. owner.Own vrf.Default ip)
+row_short plan (key.Addr (on.Vlan v) ip len) row.Addr = inr (owner.Own vrf.Default ip, refl)
+row_short plan (key.Addr (on.Loopback n) ip len) row.Addr = inr (owner.Own vrf.Default ip, refl)
 row_short plan (key.Route prefix) (row.Route (route.Hops hops)) = group_short (hops_of plan hops)
 row_short plan (key.Route prefix) (row.Route route.Drop) = inl refl
 row_short plan (key.Route prefix) (row.Route (route.Direct i)) = inl refl

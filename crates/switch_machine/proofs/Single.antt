@@ -12,6 +12,7 @@ use Rattle.table_schema.specs.declared.row.Row.{Row}
 use Rattle.table_schema.proofs.Keys.{key_exact, key_total}
 use Rattle.sai_types.specs.declared.kind.Kind.{Kind}
 use Rattle.sai_types.specs.declared.kind.Kind.TheVariants as kind
+use Rattle.sai_types.specs.Kinds.{all_kinds}
 use Rattle.sai_types.specs.Objects.{level}
 use Rattle.switch_model.specs.Desired.{have_rows}
 use Rattle.switch_model.specs.Good.{TypedRows}
@@ -48,14 +49,15 @@ both_least a b h g = key_exact a b (ties (key_cmp a b) h (sym (ap is_le (key_tot
 equal_from_both : (v u : ℕ) → v ≤ u → u ≤ v → v ≡ u
 equal_from_both v u h g = omega (arith, h, g)
 
--- a kind is told by its place
+-- a kind is told by its place among all
 pub kinds : List Kind
-kinds = kind.Port ∷ kind.Vlan ∷ kind.BridgePort ∷ kind.VlanMember ∷ kind.Rif ∷ kind.OwnAddress ∷ kind.Neighbor ∷ kind.NextHop ∷ kind.Group ∷ kind.GroupMember ∷ kind.Route ∷ []
+kinds = all_kinds
 
 pub kind_at : (k : Kind) → get_or kinds (level k) kind.Port ≡ k
 unfolding kinds
 kind_at kind.Port = refl
 kind_at kind.Vlan = refl
+kind_at kind.VirtualRouter = refl
 kind_at kind.BridgePort = refl
 kind_at kind.VlanMember = refl
 kind_at kind.Rif = refl
@@ -79,9 +81,10 @@ kind_low (suc (suc (suc (suc (suc (suc zero)))))) = omega arith
 kind_low (suc (suc (suc (suc (suc (suc (suc zero))))))) = omega arith
 kind_low (suc (suc (suc (suc (suc (suc (suc (suc zero)))))))) = omega arith
 kind_low (suc (suc (suc (suc (suc (suc (suc (suc (suc zero))))))))) = omega arith
-kind_low (suc (suc (suc (suc (suc (suc (suc (suc (suc (suc n)))))))))) = above n
+kind_low (suc (suc (suc (suc (suc (suc (suc (suc (suc (suc zero)))))))))) = omega arith
+kind_low (suc (suc (suc (suc (suc (suc (suc (suc (suc (suc (suc n))))))))))) = above n
   where
-    above : (n : ℕ) → level (get_or kinds (suc (suc (suc (suc (suc (suc (suc (suc (suc (suc n)))))))))) kind.Port) ≤ suc (suc (suc (suc (suc (suc (suc (suc (suc (suc n)))))))))
+    above : (n : ℕ) → level (get_or kinds (suc (suc (suc (suc (suc (suc (suc (suc (suc (suc (suc n))))))))))) kind.Port) ≤ suc (suc (suc (suc (suc (suc (suc (suc (suc (suc (suc n))))))))))
     above zero = omega arith
     above (suc n) = omega arith
 

@@ -5,6 +5,10 @@ use Rattle.std.specs.BTreeMap.{is_at}
 use Rattle.std.specs.Cmp.{eq_by_cmp_equiv}
 use Rattle.swss_types.specs.declared.address.Ip.{Ip}
 use Rattle.swss_types.specs.declared.address.Prefix.{Prefix}
+use Rattle.swss_types.specs.declared.vrf.Vrf.{Vrf}
+use Rattle.swss_types.specs.declared.vrf.VrfName.{VrfName}
+use Rattle.swss_types.specs.Vrf.{same_vrf, same_vrf_name}
+use Rattle.swss_types.proofs.Routers.{vrf-exact, vrf-refl, vrf_name-exact, vrf_name-refl}
 use Rattle.swss_types.proofs.Tied.{tied}
 use Rattle.table_schema.specs.Key.{key_cmp}
 use Rattle.table_schema.specs.Plan.{Ports}
@@ -48,6 +52,12 @@ hop_split x y = by_bool x y (is_at (hop_cmp x) y) (λ h. hop_exact x y (tied (ho
 whop_split : (x y : WHop) → IsSplit x y
 whop_split x y = by_bool x y (is_at (whop_cmp x) y) (λ h. whop_exact x y (tied (whop_cmp x y) h)) (λ h. subst (λ z. is_at (whop_cmp x) z ≡ true) h ((eq_by_cmp_equiv whop_total).refl x))
 
+router_split : (x y : Vrf) → IsSplit x y
+router_split x y = by_bool x y (same_vrf x y) (vrf-exact x y) (λ h. subst (λ z. same_vrf x z ≡ true) h (vrf-refl x))
+
+label_split : (x y : VrfName) → IsSplit x y
+label_split x y = by_bool x y (same_vrf_name x y) (vrf_name-exact x y) (λ h. subst (λ z. same_vrf_name x z ≡ true) h (vrf_name-refl x))
+
 carried : {X Y : Type 0} (f : X → Y) (x y : X) → (f x ≡ f y → x ≡ y) → IsSplit x y → IsSplit (f x) (f y)
 carried f x y back (inl h) = inl (ap f h)
 carried f x y back (inr h) = inr (λ e. h (back e))
@@ -80,7 +90,7 @@ ip_split x y = by_hop (hop_split (hop_with x) (hop_with y))
 pub owner_split : (o p : Owner) → IsSplit o p
 owner_split (owner.OfRow k) (owner.OfRow q) = carried owner.OfRow k q (λ h. cc) (key_split k q)
 owner_split (owner.Bridge x) (owner.Bridge y) = carried owner.Bridge x y (λ h. cc) (nat_split x y)
-owner_split (owner.Own x) (owner.Own y) = carried owner.Own x y (λ h. cc) (ip_split x y)
+owner_split (owner.Own v x) (owner.Own w y) = carried_both owner.Own v w x y (λ h. cc) (λ h. cc) (router_split v w) (ip_split x y)
 owner_split (owner.Group x) (owner.Group y) = carried owner.Group x y (λ h. cc) (hops_split x y)
 owner_split o p = inr (λ h. cc)
 
@@ -100,15 +110,16 @@ prefix_split x y = parts (ip_split x.ip y.ip) (nat_split x.len y.len)
 pub name_split : (m n : ThingName) → IsSplit m n
 name_split (name.Port x) (name.Port y) = carried name.Port x y (λ h. cc) (nat_split x y)
 name_split (name.Vlan x) (name.Vlan y) = carried name.Vlan x y (λ h. cc) (nat_split x y)
+name_split (name.VirtualRouter x) (name.VirtualRouter y) = carried name.VirtualRouter x y (λ h. cc) (label_split x y)
 name_split (name.BridgePort x) (name.BridgePort y) = carried name.BridgePort x y (λ h. cc) (nat_split x y)
 name_split (name.VlanMember x a) (name.VlanMember y b) = carried_both name.VlanMember x y a b (λ h. cc) (λ h. cc) (nat_split x y) (nat_split a b)
 name_split (name.Rif x) (name.Rif y) = carried name.Rif x y (λ h. cc) (base_split x y)
-name_split (name.Own x) (name.Own y) = carried name.Own x y (λ h. cc) (ip_split x y)
+name_split (name.Own v x) (name.Own w y) = carried_both name.Own v w x y (λ h. cc) (λ h. cc) (router_split v w) (ip_split x y)
 name_split (name.Neighbor x) (name.Neighbor y) = carried name.Neighbor x y (λ h. cc) (hop_split x y)
 name_split (name.NextHop x) (name.NextHop y) = carried name.NextHop x y (λ h. cc) (hop_split x y)
 name_split (name.Group x) (name.Group y) = carried name.Group x y (λ h. cc) (hops_split x y)
 name_split (name.GroupMember x a) (name.GroupMember y b) = carried_both name.GroupMember x y a b (λ h. cc) (λ h. cc) (hops_split x y) (whop_split a b)
-name_split (name.Route x) (name.Route y) = carried name.Route x y (λ h. cc) (prefix_split x y)
+name_split (name.Route v x) (name.Route w y) = carried_both name.Route v w x y (λ h. cc) (λ h. cc) (router_split v w) (prefix_split x y)
 name_split m n = inr (λ h. cc)
 
 -- ---- values that are put

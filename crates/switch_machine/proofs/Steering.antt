@@ -1,12 +1,16 @@
 -- where packets go while a route's operation runs: as before but for what its prefix covers, and that changes once
 use Rattle.std.proofs.Common.{◌≡◌, ◌⊎◌, ◌<◌, ◌≤◌, ◌∷◌, ◌++◌, ◌∙◌, inl, inr, ℕ, zero, suc, Bool, false, List, [], length, map, take, Option, None, Some, refl, sym, ap, ap₂, subst, arith}
 use Rattle.std.proofs.Math.Seq.{take-length}
-use Rattle.std.proofs.lemmas.Bool.{false≢true}
+use Rattle.std.proofs.lemmas.Bool.{and_from, false≢true}
 use Rattle.swss_types.specs.Address.{IsProperPrefix, covers}
+use Rattle.swss_types.specs.Vrf.{covers_in, same_vrf}
 use Rattle.swss_types.specs.declared.vrf.Packet.{Packet}
 use Rattle.swss_types.specs.declared.address.Mac.{Mac}
 use Rattle.swss_types.specs.declared.address.Prefix.{Prefix}
+use Rattle.swss_types.specs.declared.vrf.Vrf.{Vrf}
+use Rattle.swss_types.specs.declared.vrf.Vrf.TheVariants as vrf
 use Rattle.swss_types.proofs.Proper.{mapped}
+use Rattle.swss_types.proofs.Routers.{vrf-refl}
 use Rattle.table_schema.specs.Plan.{IsPlan, Ports}
 use Rattle.table_schema.specs.declared.key.Key.TheVariants as key
 use Rattle.table_schema.specs.declared.row.Row.{Row}
@@ -23,7 +27,7 @@ use Rattle.sai_types.specs.Decided.{AreRoutes}
 use Rattle.sai_types.specs.Forwarding.{Decision, decide, forward, forwarding_of, hop_mac}
 use Rattle.sai_types.specs.Forwarding as decision
 use Rattle.sai_types.specs.Names as name
-use Rattle.sai_types.specs.Names.{ThingName, name_of}
+use Rattle.sai_types.specs.Names.{ThingName, name_of, thing_router}
 use Rattle.sai_types.proofs.Decided.{decide-alike}
 use Rattle.chip_layout.proofs.Answering.{IsFront, front, mac_in}
 use Rattle.row_layout.specs.Operations.{Change, Make, Set, Take, changes_of, uses_of}
@@ -33,7 +37,7 @@ use Rattle.row_layout.proofs.Members.{in_map}
 use Rattle.switch_machine.specs.Bearing.{Bears, BearsOn, NoneBears, SwitchesOnce, standing_things}
 use Rattle.switch_machine.specs.Changes.{after, changed_name}
 use Rattle.switch_machine.specs.Events.{AreAnswers, IsAnswer, IsBegin, IsDueCall, IsQuiet, IsSafe, SwitchState, after_answers, changes_made}
-use Rattle.switch_machine.specs.Flights.{Can, Fits, Goes, IsFinal, IsOwnedBy, Machine, StandsIn}
+use Rattle.switch_machine.specs.Flights.{Can, Fits, Goes, HasName, IsFinal, IsOwnedBy, Machine, StandsIn, own_of}
 use Rattle.switch_machine.specs.Operations.{IsUsedByOthers}
 use Rattle.switch_machine.specs.Steps.{started}
 use Rattle.switch_machine.specs.Tables.{TableLaws}
@@ -43,6 +47,7 @@ use Rattle.switch_machine.proofs.Reasoned.{route-row}
 use Rattle.switch_machine.proofs.Running.{Agree, stays, stood}
 use Rattle.switch_machine.proofs.Sequence.{sequence}
 use Rattle.switch_machine.proofs.Splits.{own_row_in}
+use Rattle.switch_machine.proofs.Standing.{own-default, resembles-default, stands-default}
 use Rattle.switch_machine.proofs.Tabled.{tabled}
 
 -- ---- what a decision rests on
@@ -64,10 +69,10 @@ HaveOneMac ts = (hop : Hop) (m n : Mac) → IsIn (thing.Neighbor hop m) ts → I
 module _ (ts us : List Thing) (a : Packet) (routes : AreRoutes us) (macs : HaveOneMac us) (same : Agree (λ u. IsIn u ts) (λ u. IsIn u us) (λ u. BearsOn a (name_of u))) where
   decided : decide ts a ≡ decide us a
   decided = decide-alike ts us a routes (record {
-    own = same.into (thing.Own a.to) tt;
-    own_back = same.back (thing.Own a.to) tt;
-    routes = λ p g covering. same.into (thing.Route p g) covering;
-    routes_back = λ p g covering. same.back (thing.Route p g) covering;
+    own = same.into (thing.Own a.vrf a.to) tt;
+    own_back = same.back (thing.Own a.vrf a.to) tt;
+    routes = λ p g covering. same.into (thing.Route a.vrf p g) (and_from (same_vrf a.vrf a.vrf) (covers p a.to) (vrf-refl a.vrf) covering);
+    routes_back = λ p g covering. same.back (thing.Route a.vrf p g) (and_from (same_vrf a.vrf a.vrf) (covers p a.to) (vrf-refl a.vrf) covering);
   })
 
   mac_same : (hop : Hop) → hop_mac ts hop ≡ hop_mac us hop
@@ -112,8 +117,8 @@ from_standing : (m : Machine) (u : Thing) → IsIn u (standing_things m) → Sta
 from_standing m u h = from_list m.stands u h
 
 bears_on : (a : Packet) (n : ThingName) → BearsOn a n → Bears n
-bears_on a (name.Route p) h = tt
-bears_on a (name.Own ip) h = tt
+bears_on a (name.Route v p) h = tt
+bears_on a (name.Own v ip) h = tt
 bears_on a (name.Neighbor hop) h = tt
 bears_on a _ h = elim h [ ]
 
@@ -127,12 +132,12 @@ module _ (plan : Ports) (is : IsPlan plan) (workers : ℕ) (capacities : List �
 
   routes_stand : (s : SwitchState) → IsSafe plan workers capacities s → AreRoutes (standing_things s.machine)
   routes_stand s kept = record {
-    proper = λ p g h. let x = route-row plan is workers capacities s kept p g (from_standing s.machine (thing.Route p g) h) in proper_by p x.0 (kept.sound.board.fit (key.Route p) x.0 x.1);
-    one = λ p g h x y. one p g h (from_standing s.machine (thing.Route p g) x) (from_standing s.machine (thing.Route p h) y);
+    proper = λ v p g h. let x = route-row plan is workers capacities s kept v p g (from_standing s.machine (thing.Route v p g) h) in proper_by p x.0 (kept.sound.board.fit (key.Route p) x.0 x.1);
+    one = λ v p g h x y. one v p g h (from_standing s.machine (thing.Route v p g) x) (from_standing s.machine (thing.Route v p h) y);
   }
     where
-      one : (p : Prefix) (g h : Goal) → StandsIn s.machine (thing.Route p g) → StandsIn s.machine (thing.Route p h) → g ≡ h
-      one p g h (i, x) (j, y) = let same = (kept.laid.one i j (thing.Route p g) (thing.Route p h) x y refl).1 in cc
+      one : (v : Vrf) (p : Prefix) (g h : Goal) → StandsIn s.machine (thing.Route v p g) → StandsIn s.machine (thing.Route v p h) → g ≡ h
+      one v p g h (i, x) (j, y) = let same = (kept.laid.one i j (thing.Route v p g) (thing.Route v p h) x y refl).1 in cc
 
   macs_stand : (s : SwitchState) → IsSafe plan workers capacities s → HaveOneMac (standing_things s.machine)
   macs_stand s kept hop m n x y = one (from_standing s.machine (thing.Neighbor hop m) x) (from_standing s.machine (thing.Neighbor hop n) y)
@@ -162,42 +167,45 @@ module _ (plan : Ports) (is : IsPlan plan) (workers : ℕ) (capacities : List �
 
   -- ---- the changes of a route's operation
 
-  bears_route : (prefix : Prefix) (n : ThingName) → IsOwnedBy plan n (OfRow (key.Route prefix)) → Bears n → n ≡ name.Route prefix
-  bears_route prefix (name.Route p) of b = cc
-  bears_route prefix (name.Own ip) of b = absurd cc
-  bears_route prefix (name.Neighbor hop) of b = let m = mapped (λ n. OfRow (key.Neigh n hop.ip)) _ (OfRow (key.Route prefix)) of in let e = m.2 in absurd cc
-  bears_route prefix _ of b = elim b [ ]
+  bears_route : (prefix : Prefix) (u : Thing) → IsOwnedBy plan (name_of u) (OfRow (key.Route prefix)) → thing_router u ≡ vrf.Default → Bears (name_of u) → name_of u ≡ name.Route vrf.Default prefix
+  bears_route prefix (thing.Route v p g) of default b = cc
+  bears_route prefix (thing.Own v ip) of default b = absurd cc
+  bears_route prefix (thing.Neighbor hop mac) of default b = let m = mapped (λ n. OfRow (key.Neigh n hop.ip)) _ (OfRow (key.Route prefix)) of in let e = m.2 in absurd cc
+  bears_route prefix _ of default b = elim b [ ]
 
   bears_group : (hops : List WHop) (n : ThingName) → IsOwnedBy plan n (owner.Group hops) → Bears n → ⊥
-  bears_group hops (name.Route p) of b = cc
-  bears_group hops (name.Own ip) of b = cc
+  bears_group hops (name.Route v p) of b = cc
+  bears_group hops (name.Own v ip) of b = cc
   bears_group hops (name.Neighbor hop) of b = let m = mapped (λ n. OfRow (key.Neigh n hop.ip)) _ (owner.Group hops) of in let e = m.2 in cc
   bears_group hops _ of b = elim b [ ]
 
-  route_change : (s : SwitchState) (call : Call Rid) (x : IsDueCall workers call s) (prefix : Prefix) → IsSafe plan workers capacities s → x.flight.key ≡ key.Route prefix → Bears (changed_name x.change) → changed_name x.change ≡ name.Route prefix
+  route_change : (s : SwitchState) (call : Call Rid) (x : IsDueCall workers call s) (prefix : Prefix) → IsSafe plan workers capacities s → x.flight.key ≡ key.Route prefix → Bears (changed_name x.change) → changed_name x.change ≡ name.Route vrf.Default prefix
   route_change s call x prefix kept route bears = by x.change (it_can plan is workers capacities s kept call x) bears
     where
-      of_row : (n : ThingName) → IsOwnedBy plan n (OfRow x.flight.key) → Bears n → n ≡ name.Route prefix
-      of_row n of b = bears_route prefix n (of ∙ ap (λ k. Some (OfRow k)) route) b
+      of_row : (u : Thing) → IsOwnedBy plan (name_of u) (OfRow x.flight.key) → thing_router u ≡ vrf.Default → Bears (name_of u) → name_of u ≡ name.Route vrf.Default prefix
+      of_row u of default b = bears_route prefix u (of ∙ ap (λ k. Some (OfRow k)) route) default b
 
-      of_used : (n : ThingName) (o : Owner) (r : Option Row) → IsOwnedBy plan n o → IsIn o (uses_of plan x.flight.key r) → Bears n → n ≡ name.Route prefix
+      of_used : (n : ThingName) (o : Owner) (r : Option Row) → IsOwnedBy plan n o → IsIn o (uses_of plan x.flight.key r) → Bears n → n ≡ name.Route vrf.Default prefix
       of_used n o r of used b = let g = route_groups plan prefix r o (subst (λ k. IsIn o (uses_of plan k r)) route used) in absurd (bears_group g.0 n (of ∙ ap Some g.1) b)
 
-      final : (t : Thing) → IsFinal plan x.flight t → Bears (name_of t) → name_of t ≡ name.Route prefix
-      final t (inl own) b = let r = own_row_in plan x.flight.key x.flight.new t own in of_row (name_of t) (T.own x.flight.key r.0 t (kept.sound.board.fit x.flight.key r.0 (inr (x.worker, x.flight, x.flying, refl, r.1))) r.2) b
+      new_default : (t : Thing) → IsIn t (own_of plan x.flight.key x.flight.new) → thing_router t ≡ vrf.Default
+      new_default t own = let r = own_row_in plan x.flight.key x.flight.new t own in own-default plan x.flight.key r.0 t r.2
+
+      final : (t : Thing) → IsFinal plan x.flight t → Bears (name_of t) → name_of t ≡ name.Route vrf.Default prefix
+      final t (inl own) b = let r = own_row_in plan x.flight.key x.flight.new t own in of_row t (T.own x.flight.key r.0 t (kept.sound.board.fit x.flight.key r.0 (inr (x.worker, x.flight, x.flying, refl, r.1))) r.2) (new_default t own) b
       final t (inr (o, used, h)) b = of_used (name_of t) o x.flight.new (T.shared o t h) used b
 
-      goes : (n : ThingName) → Goes plan x.flight n → Bears n → n ≡ name.Route prefix
-      goes n (inl own) b = of_row n own.0 b
-      goes n (inr (o, of, retires)) b = let was = kept.sound.board.left x.worker x.flight o x.flying retires in of_used n o (Some was.row) of was.used b
+      goes : (n : ThingName) → HasName (StandsIn s.machine) n → Goes plan x.flight n → Bears n → n ≡ name.Route vrf.Default prefix
+      goes n (u, there, same) (inl own) b = sym same ∙ of_row u (subst (λ z. IsOwnedBy plan z (OfRow x.flight.key)) (sym same) own.0) (stands-default plan s.machine kept.sound u there) (subst Bears (sym same) b)
+      goes n there (inr (o, of, retires)) b = let was = kept.sound.board.left x.worker x.flight o x.flying retires in of_used n o (Some was.row) of was.used b
 
-      by : (c : Change) → Can plan x.flight (StandsIn s.machine) c → Bears (changed_name c) → changed_name c ≡ name.Route prefix
+      by : (c : Change) → Can plan x.flight (StandsIn s.machine) c → Bears (changed_name c) → changed_name c ≡ name.Route vrf.Default prefix
       by (Make t) can b = final t can.final b
-      by (Set t) can b = of_row (name_of t) can.own b
-      by (Take n) can b = goes n can.goes b
+      by (Set t) can b = of_row t can.own (resembles-default t can.like can.resembles.same (new_default can.like can.final)) b
+      by (Take n) can b = goes n can.there can.goes b
 
   -- an address that the prefix doesn't cover goes on as before
-  pub outside : (s t : SwitchState) (call : Call Rid) (x : IsAnswer plan workers call s t) (prefix : Prefix) (a : Packet) → IsSafe plan workers capacities s → x.next.flight.key ≡ key.Route prefix → covers prefix a.to ≡ false → (decide (standing_things t.machine) a ≡ decide (standing_things s.machine) a) × (forward (standing_things t.machine) a ≡ forward (standing_things s.machine) a)
+  pub outside : (s t : SwitchState) (call : Call Rid) (x : IsAnswer plan workers call s t) (prefix : Prefix) (a : Packet) → IsSafe plan workers capacities s → x.next.flight.key ≡ key.Route prefix → covers_in vrf.Default prefix a ≡ false → (decide (standing_things t.machine) a ≡ decide (standing_things s.machine) a) × (forward (standing_things t.machine) a ≡ forward (standing_things s.machine) a)
   outside s t call x prefix a kept route out = step s t call x a kept (λ b. false≢true (sym out ∙ subst (BearsOn a) (route_change s call x.next prefix kept route (bears_on a (changed_name x.next.change) b)) b))
 
   -- ---- what a run of answers does to a value that only bearing changes move
@@ -284,7 +292,7 @@ module _ (plan : Ports) (is : IsPlan plan) (workers : ℕ) (capacities : List �
       let start = same t.machine s.machine (sym (same_stands plan is workers capacities x.worker (started s.machine x.worker x.flight x.due) t.machine x.follows)) in
       record { moment = later.moment; before = λ n h. later.before n h ∙ start; behind = later.behind }
     where
-      one : {cs : List Change} → (cs ≡ []) ⊎ ((c : Change) × (cs ≡ c ∷ []) × (changed_name c ≡ name.Route prefix)) → (cs ≡ []) ⊎ ((c : Change) × (cs ≡ c ∷ []))
+      one : {cs : List Change} → (cs ≡ []) ⊎ ((c : Change) × (cs ≡ c ∷ []) × (changed_name c ≡ name.Route vrf.Default prefix)) → (cs ≡ []) ⊎ ((c : Change) × (cs ≡ c ∷ []))
       one (inl e) = inl e
       one (inr (c, e, _)) = inr (c, e)
 

@@ -4,6 +4,7 @@ use Rattle.swss_types.specs.declared.address.Ip.{Ip}
 use Rattle.swss_types.specs.declared.address.Prefix.{Prefix}
 use Rattle.swss_types.specs.declared.interface.IfName.{IfName}
 use Rattle.swss_types.specs.declared.interface.IfName.TheVariants as on
+use Rattle.swss_types.specs.declared.vrf.Vrf.TheVariants as vrf
 use Rattle.swss_types.proofs.Proper.{mapped}
 use Rattle.table_schema.specs.Names.{names_of}
 use Rattle.table_schema.specs.Plan.{Ports, IsPlan}
@@ -76,10 +77,10 @@ pub member_hop : (all hops : List WHop) (hop : WHop) → IsIn (thing.GroupMember
 member_hop all hops hop h = let x = member_of all hops (thing.GroupMember all hop) h in let same : x.0 ≡ hop = cc in subst (λ z. IsIn z hops) same x.1
 
 -- what an address row uses is its own address
-pub address_use : (plan : Ports) (i : IfName) (ip : Ip) (o : Owner) → IsIn o (address_uses plan i ip) → o ≡ owner.Own ip
-address_use plan (on.Ethernet port) ip o h = only (λ o. o ≡ owner.Own ip) o (owner.Own ip) refl (from_in (lane_of plan port) _ o h).2
-address_use plan (on.Vlan v) ip o h = only (λ o. o ≡ owner.Own ip) o (owner.Own ip) refl h
-address_use plan (on.Loopback n) ip o h = only (λ o. o ≡ owner.Own ip) o (owner.Own ip) refl h
+pub address_use : (plan : Ports) (i : IfName) (ip : Ip) (o : Owner) → IsIn o (address_uses plan i ip) → o ≡ owner.Own vrf.Default ip
+address_use plan (on.Ethernet port) ip o h = only (λ o. o ≡ owner.Own vrf.Default ip) o (owner.Own vrf.Default ip) refl (from_in (lane_of plan port) _ o h).2
+address_use plan (on.Vlan v) ip o h = only (λ o. o ≡ owner.Own vrf.Default ip) o (owner.Own vrf.Default ip) refl h
+address_use plan (on.Loopback n) ip o h = only (λ o. o ≡ owner.Own vrf.Default ip) o (owner.Own vrf.Default ip) refl h
 
 module _ (plan : Ports) (is : IsPlan plan) where
   names_by : (k : Key) (r : Row) (n : ThingName) → Fits plan k r → IsIn n (own_names plan k) → Gives (own_things plan k r) n
@@ -93,10 +94,10 @@ module _ (plan : Ports) (is : IsPlan plan) where
       named (inr h) = elim h [ ]
   names_by (key.Vlan v) row.Vlan n fit (inl e) = (thing.Vlan v, inl refl, sym e)
   names_by (key.Vlan v) row.Vlan n fit (inr h) = elim h [ ]
-  names_by (key.Intf i) row.Intf n fit h = gives_from (base_of plan i) (λ b. name.Rif b ∷ []) (λ b. thing.Rif b ∷ []) n each h
+  names_by (key.Intf i) row.Intf n fit h = gives_from (base_of plan i) (λ b. name.Rif b ∷ []) (λ b. thing.Rif b vrf.Default ∷ []) n each h
     where
-      each : (b : Base) → IsIn n (name.Rif b ∷ []) → Gives (thing.Rif b ∷ []) n
-      each b (inl e) = (thing.Rif b, inl refl, sym e)
+      each : (b : Base) → IsIn n (name.Rif b ∷ []) → Gives (thing.Rif b vrf.Default ∷ []) n
+      each b (inl e) = (thing.Rif b vrf.Default, inl refl, sym e)
       each b (inr h) = elim h [ ]
   names_by (key.Neigh i ip) (row.Neigh mac) n fit h =
       gives_from (base_of plan i) _ (λ b. thing.Neighbor (record { on = b; ip = ip }) mac ∷ thing.NextHop (record { on = b; ip = ip }) ∷ []) n
@@ -159,7 +160,7 @@ module _ (plan : Ports) (is : IsPlan plan) where
       })
 
   abbrev RouteLeads : Prefix → RouteRow → Goal → Type 0
-  RouteLeads prefix r g = LeadAll (key.Route prefix) (row.Route r) (thing.Route prefix g)
+  RouteLeads prefix r g = LeadAll (key.Route prefix) (row.Route r) (thing.Route vrf.Default prefix g)
 
   goal_leads : (prefix : Prefix) (hops : List (RowHop × ℕ)) (o : Option (List WHop)) (g : Goal) → hops_of plan hops ≡ o → goal_to o ≡ Some g → RouteLeads prefix (route.Hops hops) g
   goal_leads prefix hops None g at e = absurd cc
@@ -167,20 +168,20 @@ module _ (plan : Ports) (is : IsPlan plan) where
   goal_leads prefix hops (Some (hop ∷ [])) g at e =
       let is : goal.Via hop.hop ≡ g = cc in
       subst (RouteLeads prefix (route.Hops hops)) is
-      (λ n h. only (Leads (key.Route prefix) (row.Route (route.Hops hops)) (thing.Route prefix (goal.Via hop.hop))) n (name.NextHop hop.hop) (inl (hop_leads prefix hops (hop ∷ []) hop at (inl refl))) h)
+      (λ n h. only (Leads (key.Route prefix) (row.Route (route.Hops hops)) (thing.Route vrf.Default prefix (goal.Via hop.hop))) n (name.NextHop hop.hop) (inl (hop_leads prefix hops (hop ∷ []) hop at (inl refl))) h)
   goal_leads prefix hops (Some (hop ∷ next ∷ more)) g at e =
       let all = hop ∷ next ∷ more in
       let is : goal.Group all ≡ g = cc in
       let used : IsIn (owner.Group all) (group_by (hops_of plan hops)) = subst (λ z. IsIn (owner.Group all) (group_by z)) (sym at) (inl refl) in
       subst (RouteLeads prefix (route.Hops hops)) is
-      (λ n h. only (Leads (key.Route prefix) (row.Route (route.Hops hops)) (thing.Route prefix (goal.Group all))) n (name.Group all) (inr (inr (owner.Group all, refl, used, (thing.Group all, inl refl, refl)))) h)
+      (λ n h. only (Leads (key.Route prefix) (row.Route (route.Hops hops)) (thing.Route vrf.Default prefix (goal.Group all))) n (name.Group all) (inr (inr (owner.Group all, refl, used, (thing.Group all, inl refl, refl)))) h)
 
   route_leads : (prefix : Prefix) (r : RouteRow) (g : Goal) → goal_of plan r ≡ Some g → RouteLeads prefix r g
   route_leads prefix route.Drop g at = let e : goal.Drop ≡ g = cc in subst (RouteLeads prefix route.Drop) e (λ n h. elim h [ ])
   route_leads prefix (route.Direct i) g at =
       let m = mapped goal.Direct (base_of plan i) g at in
       subst (RouteLeads prefix (route.Direct i)) m.2
-      (λ n h. only (Leads (key.Route prefix) (row.Route (route.Direct i)) (thing.Route prefix (goal.Direct m.0))) n (name.Rif m.0) (inl (rif_named_by (key.Route prefix) (row.Route (route.Direct i)) i m.0 m.1 (inl refl))) h)
+      (λ n h. only (Leads (key.Route prefix) (row.Route (route.Direct i)) (thing.Route vrf.Default prefix (goal.Direct m.0))) n (name.Rif m.0) (inl (rif_named_by (key.Route prefix) (row.Route (route.Direct i)) i m.0 m.1 (inl refl))) h)
   route_leads prefix (route.Hops hops) g at = goal_leads prefix hops (hops_of plan hops) g refl at
 
   pub own_refers_by : (k : Key) (r : Row) (t : Thing) → Fits plan k r → IsIn t (own_things plan k r) → LeadAll k r t
@@ -195,7 +196,7 @@ module _ (plan : Ports) (is : IsPlan plan) where
           (inr (inr (owner.Bridge lane, refl, in_from (lane_of plan p) (λ l. owner.Bridge l ∷ []) lane (owner.Bridge lane) at (inl refl), (thing.BridgePort lane, inl refl, refl)))) e
   own_refers_by (key.Intf i) row.Intf t fit h =
       let m = from_in (base_of plan i) _ t h in
-      only (LeadAll (key.Intf i) row.Intf) t (thing.Rif m.0) (λ n e. only (Leads (key.Intf i) row.Intf (thing.Rif m.0)) n (base_name m.0) (inl (intf_leads i row.Intf m.0 m.1)) e) m.2
+      only (LeadAll (key.Intf i) row.Intf) t (thing.Rif m.0 vrf.Default) (λ n e. only (Leads (key.Intf i) row.Intf (thing.Rif m.0 vrf.Default)) n (base_name m.0) (inl (intf_leads i row.Intf m.0 m.1)) e) m.2
   own_refers_by (key.Neigh i ip) (row.Neigh mac) t fit h = let m = from_in (base_of plan i) _ t h in two (LeadAll (key.Neigh i ip) (row.Neigh mac)) t (thing.Neighbor (record { on = m.0; ip = ip }) mac) (thing.NextHop (record { on = m.0; ip = ip })) (neighbor m.0 m.1) (next_hop m.0 m.1) m.2
     where
       rif : (t : Thing) (b : Base) → base_of plan i ≡ Some b → Leads (key.Neigh i ip) (row.Neigh mac) t (name.Rif b)
@@ -212,7 +213,7 @@ module _ (plan : Ports) (is : IsPlan plan) where
             names_own_by (key.Neigh i ip) (name.Neighbor (record { on = b; ip = ip })) (in_from (base_of plan i) _ b (name.Neighbor (record { on = b; ip = ip })) at (inl refl)),
             subst (λ o. ComesBefore (name.Neighbor (record { on = b; ip = ip })) (thing.NextHop (record { on = b; ip = ip })) (from o (λ b. thing.Neighbor (record { on = b; ip = ip }) mac ∷ thing.NextHop (record { on = b; ip = ip }) ∷ []))) (sym at) (inl (refl, inl refl)),
           ))) e
-  own_refers_by (key.Route prefix) (row.Route r) t fit h = let m = from_in (goal_of plan r) _ t h in only (LeadAll (key.Route prefix) (row.Route r)) t (thing.Route prefix m.0) (route_leads prefix r m.0 m.1) m.2
+  own_refers_by (key.Route prefix) (row.Route r) t fit h = let m = from_in (goal_of plan r) _ t h in only (LeadAll (key.Route prefix) (row.Route r)) t (thing.Route vrf.Default prefix m.0) (route_leads prefix r m.0 m.1) m.2
   own_refers_by k r t fit h = elim h [ ]
 
   -- and of what a row shares
@@ -232,7 +233,7 @@ module _ (plan : Ports) (is : IsPlan plan) where
   shared_refers_by (key.Addr i ip len) row.Addr o u fit h in_it =
       let same = address_use plan i ip o h in
       subst (λ o. SharedLeadAll (key.Addr i ip len) row.Addr o u) (sym same)
-      (only (SharedLeadAll (key.Addr i ip len) row.Addr (owner.Own ip)) u (thing.Own ip) (λ n e. elim e [ ]) (subst (λ o. IsIn u (shared_things o)) same in_it))
+      (only (SharedLeadAll (key.Addr i ip len) row.Addr (owner.Own vrf.Default ip)) u (thing.Own vrf.Default ip) (λ n e. elim e [ ]) (subst (λ o. IsIn u (shared_things o)) same in_it))
   shared_refers_by (key.Route prefix) (row.Route (route.Hops hops)) o u fit h in_it =
       let x = group_use o (hops_of plan hops) h in
       subst (λ o. SharedLeadAll (key.Route prefix) (row.Route (route.Hops hops)) o u) (sym x.2) (group x.0 x.1 (subst (λ o. IsIn u (shared_things o)) x.2 in_it))

@@ -1,6 +1,6 @@
 -- Which changes bear on where packets go: those of routes, own addresses and neighbours. Own.
 use Rattle.std.specs.Prelude.{◌≡◌, ◌⊎◌, ◌<◌, ◌≤◌, ◌∷◌, ◌++◌, ℕ, true, List, [], map}
-use Rattle.swss_types.specs.Address.{covers}
+use Rattle.swss_types.specs.Vrf.{covers_in}
 use Rattle.swss_types.specs.declared.vrf.Packet.{Packet}
 use Rattle.sai_types.specs.declared.ids.Rid.{Rid}
 use Rattle.sai_types.specs.declared.thing.Thing.{Thing}
@@ -13,15 +13,15 @@ use Rattle.switch_machine.specs.Flights.{Machine}
 
 -- what has this name bears on where packets go
 abbrev pub Bears : ThingName → Type 0
-Bears (name.Route prefix) = Unit {0}
-Bears (name.Own ip) = Unit {0}
+Bears (name.Route v prefix) = Unit {0}
+Bears (name.Own v ip) = Unit {0}
 Bears (name.Neighbor hop) = Unit {0}
 Bears _ = ⊥
 
 -- and on where this packet goes
 abbrev pub BearsOn : Packet → ThingName → Type 0
-BearsOn a (name.Route prefix) = covers prefix a.to ≡ true
-BearsOn a (name.Own ip) = Unit {0}
+BearsOn a (name.Route v prefix) = covers_in v prefix a ≡ true
+BearsOn a (name.Own v ip) = Unit {0}
 BearsOn a (name.Neighbor hop) = Unit {0}
 BearsOn a _ = ⊥
 

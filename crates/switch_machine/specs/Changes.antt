@@ -39,7 +39,7 @@ abbrev pub IsSettable : Thing → Thing → Type 0
 IsSettable (thing.Port p) u = ((s : ℕ) × (u ≡ thing.Port (record { lanes = p.lanes; speed = s; mtu = p.mtu; up = p.up }))) ⊎ (((m : ℕ) × (u ≡ thing.Port (record { lanes = p.lanes; speed = p.speed; mtu = m; up = p.up }))) ⊎ ((x : Bool) × (u ≡ thing.Port (record { lanes = p.lanes; speed = p.speed; mtu = p.mtu; up = x }))))
 IsSettable (thing.VlanMember vlan lane tagging) u = (x : Tagging) × (u ≡ thing.VlanMember vlan lane x)
 IsSettable (thing.Neighbor hop mac) u = (m : Mac) × (u ≡ thing.Neighbor hop m)
-IsSettable (thing.Route prefix goal) u = (g : Goal) × (u ≡ thing.Route prefix g)
+IsSettable (thing.Route v prefix goal) u = (g : Goal) × (u ≡ thing.Route v prefix g)
 IsSettable _ u = ⊥
 
 -- two ports with the same lanes

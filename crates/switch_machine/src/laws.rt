@@ -1,6 +1,8 @@
 // What holds of every run of the machine. Each function is a law: it does nothing, and its contract is proved.
 ghost use Rattle.std.specs.Prelude.{◌≡◌, ◌⊎◌, ℕ, ◌+◌, Bool, false, take, ◌<◌, List, ◌∷◌, Option, Some, None};
-ghost use Rattle.swss_types.specs.Address.{covers};
+ghost use Rattle.swss_types.specs.Vrf.{covers_in};
+ghost use Rattle.swss_types.specs.declared.vrf.Vrf.{Vrf};
+ghost use Rattle.swss_types.specs.declared.vrf.Vrf.TheVariants as vrf;
 ghost use Rattle.swss_types.specs.declared.vrf.Packet.{Packet};
 ghost use Rattle.swss_types.specs.declared.address.Prefix.{Prefix};
 ghost use Rattle.table_schema.specs.Plan.{Ports, IsPlan};
@@ -68,9 +70,9 @@ pub fn rest_is_alike()
 /// A route that stands is that of a row of its prefix, applied or to be applied, which was its good row after some number of
 /// the writes taken; and the group that it points at has a member for each of its hops.
 pub fn routes_are_whole()
-    ensures rows { (plan : Ports) (workers : ℕ) (capacities : List ℕ) (s : SwitchState) (prefix : Prefix) (g : Goal) → IsPlan plan → IsSafe plan workers capacities s → StandsIn s.machine (thing.Route prefix g) → (r : Row) × IsRow s.machine.board (key.Route prefix) r × IsIn (thing.Route prefix g) (own_things plan (key.Route prefix) r) }
-    ensures written { (plan : Ports) (workers : ℕ) (capacities : List ℕ) (s : SwitchState) (prefix : Prefix) (g : Goal) → IsPlan plan → IsSafe plan workers capacities s → StandsIn s.machine (thing.Route prefix g) → (r : Row) × IsGoodOnce plan s.written.taken (key.Route prefix) r × IsIn (thing.Route prefix g) (own_things plan (key.Route prefix) r) }
-    ensures members { (plan : Ports) (workers : ℕ) (capacities : List ℕ) (s : SwitchState) (prefix : Prefix) (hops : List WHop) (hop : WHop) → IsPlan plan → IsSafe plan workers capacities s → StandsIn s.machine (thing.Route prefix (goal.Group hops)) → IsIn hop hops → StandsIn s.machine (thing.GroupMember hops hop) }
+    ensures rows { (plan : Ports) (workers : ℕ) (capacities : List ℕ) (s : SwitchState) (v : Vrf) (prefix : Prefix) (g : Goal) → IsPlan plan → IsSafe plan workers capacities s → StandsIn s.machine (thing.Route v prefix g) → (r : Row) × IsRow s.machine.board (key.Route prefix) r × IsIn (thing.Route v prefix g) (own_things plan (key.Route prefix) r) }
+    ensures written { (plan : Ports) (workers : ℕ) (capacities : List ℕ) (s : SwitchState) (v : Vrf) (prefix : Prefix) (g : Goal) → IsPlan plan → IsSafe plan workers capacities s → StandsIn s.machine (thing.Route v prefix g) → (r : Row) × IsGoodOnce plan s.written.taken (key.Route prefix) r × IsIn (thing.Route v prefix g) (own_things plan (key.Route prefix) r) }
+    ensures members { (plan : Ports) (workers : ℕ) (capacities : List ℕ) (s : SwitchState) (v : Vrf) (prefix : Prefix) (hops : List WHop) (hop : WHop) → IsPlan plan → IsSafe plan workers capacities s → StandsIn s.machine (thing.Route v prefix (goal.Group hops)) → IsIn hop hops → StandsIn s.machine (thing.GroupMember hops hop) }
 {}
 
 /// While no operation is under way a reason for which a key waits is true, and a kind that lacks room is the first such kind.
@@ -101,13 +103,13 @@ pub fn reasons_hinder()
 /// Of the changes of a route's operation one at most is about a route, an own address or a neighbour, and it is about the
 /// route of the key: no other decides where packets go.
 pub fn route_changes_once()
-    ensures { (plan : Ports) (prefix : Prefix) (old new : Option Row) (used : Owner → Bool) → BearsOnce (name.Route prefix) (changes_of plan (key.Route prefix) old new used) }
+    ensures { (plan : Ports) (prefix : Prefix) (old new : Option Row) (used : Owner → Bool) → BearsOnce (name.Route vrf.Default prefix) (changes_of plan (key.Route prefix) old new used) }
 {}
 
 /// While the operation of a route runs, beside whatever others, each of its calls leaves where the packets of an address go
 /// that its prefix doesn't cover. Where it runs alone, where the packets of any address go changes at most once.
 pub fn routes_are_steady()
-    ensures outside { (plan : Ports) (workers : ℕ) (capacities : List ℕ) (s t : SwitchState) (call : Call Rid) (x : IsAnswer plan workers call s t) (prefix : Prefix) (a : Packet) → IsPlan plan → IsSafe plan workers capacities s → x.next.flight.key ≡ key.Route prefix → covers prefix a.to ≡ false → (decide (standing_things t.machine) a ≡ decide (standing_things s.machine) a) × (forward (standing_things t.machine) a ≡ forward (standing_things s.machine) a) }
+    ensures outside { (plan : Ports) (workers : ℕ) (capacities : List ℕ) (s t : SwitchState) (call : Call Rid) (x : IsAnswer plan workers call s t) (prefix : Prefix) (a : Packet) → IsPlan plan → IsSafe plan workers capacities s → x.next.flight.key ≡ key.Route prefix → covers_in vrf.Default prefix a ≡ false → (decide (standing_things t.machine) a ≡ decide (standing_things s.machine) a) × (forward (standing_things t.machine) a ≡ forward (standing_things s.machine) a) }
     ensures decided { (plan : Ports) (workers : ℕ) (capacities : List ℕ) (s t : SwitchState) (x : IsBegin plan workers capacities s t) (es : List (Call Rid × SwitchState)) (run : AreAnswers plan workers t es) (used : Owner → Bool) (prefix : Prefix) (a : Packet) → IsPlan plan → IsSafe plan workers capacities s → x.flight.key ≡ key.Route prefix → IsQuiet s → IsQuiet (after_answers t es) → IsUsedByOthers plan s.machine.board.applied x.flight.key used → SwitchesOnce (λ n. decide (standing_things (after_answers t (take n es)).machine) a) (decide (standing_things s.machine) a) (decide (standing_things (after_answers t es).machine) a) }
     ensures forwarded { (plan : Ports) (workers : ℕ) (capacities : List ℕ) (s t : SwitchState) (x : IsBegin plan workers capacities s t) (es : List (Call Rid × SwitchState)) (run : AreAnswers plan workers t es) (used : Owner → Bool) (prefix : Prefix) (a : Packet) → IsPlan plan → IsSafe plan workers capacities s → x.flight.key ≡ key.Route prefix → IsQuiet s → IsQuiet (after_answers t es) → IsUsedByOthers plan s.machine.board.applied x.flight.key used → SwitchesOnce (λ n. forward (standing_things (after_answers t (take n es)).machine) a) (forward (standing_things s.machine) a) (forward (standing_things (after_answers t es).machine) a) }
 {}

@@ -1,4 +1,5 @@
 pub mod Ready
+pub mod Levels
 pub mod ReadRows
 pub mod References
 pub mod Planned

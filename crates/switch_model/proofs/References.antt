@@ -9,6 +9,7 @@ use Rattle.swss_types.specs.declared.address.Prefix.{Prefix}
 use Rattle.swss_types.specs.declared.interface.IfName.{IfName}
 use Rattle.swss_types.specs.declared.interface.IfName.TheVariants as name
 use Rattle.swss_types.specs.declared.tagging.Tagging.{Tagging}
+use Rattle.swss_types.specs.declared.vrf.Vrf.TheVariants as vrf
 use Rattle.swss_types.proofs.Proper.{mapped}
 use Rattle.table_schema.specs.Names.{names_of, base_names, route_names}
 use Rattle.table_schema.specs.Plan.{Ports}
@@ -107,8 +108,8 @@ module _ (plan : Ports) (rows : TypedRows) (closed : IsClosed rows) (read : (k :
 
   rif_met : (on : IfName) (b : Base) (r : Row) → rows (key.Intf on) ≡ Some r → base_of plan on ≡ Some b → IsMet (thing_name.Rif b)
   rif_met on b r is at =
-      met_by (key.Intf on) row.Intf (thing.Rif b) (is ∙ ap Some (intf_read plan on r (read (key.Intf on) r is)))
-      (subst (λ o. IsIn (thing.Rif b) (from_base (λ b. thing.Rif b ∷ []) o)) (sym at) (inl refl))
+      met_by (key.Intf on) row.Intf (thing.Rif b vrf.Default) (is ∙ ap Some (intf_read plan on r (read (key.Intf on) r is)))
+      (subst (λ o. IsIn (thing.Rif b vrf.Default) (from_base (λ b. thing.Rif b vrf.Default ∷ []) o)) (sym at) (inl refl))
 
   abbrev through : Base → Ip → Hop
   through b ip = record { on = b; ip = ip }
@@ -159,7 +160,7 @@ module _ (plan : Ports) (rows : TypedRows) (closed : IsClosed rows) (read : (k :
       route_met prefix group (hops_met hops group named at)
       (λ y h. met_by (key.Route prefix) (row.Route (route.Hops hops)) y is (subst (λ o. IsIn y (from_hops prefix o)) (sym at) h))
 
-  direct_by : (prefix : Prefix) (on : IfName) (o : Option Base) → have_rows rows (key.Intf on ∷ []) ≡ true → base_of plan on ≡ o → AllIn AreMet (from_base (λ b. thing.Route prefix (goal.Direct b) ∷ []) o)
+  direct_by : (prefix : Prefix) (on : IfName) (o : Option Base) → have_rows rows (key.Intf on ∷ []) ≡ true → base_of plan on ≡ o → AllIn AreMet (from_base (λ b. thing.Route vrf.Default prefix (goal.Direct b) ∷ []) o)
   direct_by prefix on None named at = tt
   direct_by prefix on (Some b) named at =
       let there = one_there rows (key.Intf on) named in
@@ -178,7 +179,7 @@ module _ (plan : Ports) (rows : TypedRows) (closed : IsClosed rows) (read : (k :
       (subst (λ o. IsIn (thing.BridgePort lane) (from_lane (λ lane. thing.BridgePort lane ∷ thing.VlanMember vlan lane tagging ∷ []) o)) (sym at) (inl refl)) in
       ((port_met port lane (there.1).0 (there.1).1 at, tt), ((vlan_met vlan (there.0).0 (there.0).1, (bridged, tt)), tt))
 
-  rif_by : (on : IfName) (o : Option Base) → have_rows rows (base_names on) ≡ true → base_of plan on ≡ o → AllIn AreMet (from_base (λ b. thing.Rif b ∷ []) o)
+  rif_by : (on : IfName) (o : Option Base) → have_rows rows (base_names on) ≡ true → base_of plan on ≡ o → AllIn AreMet (from_base (λ b. thing.Rif b vrf.Default ∷ []) o)
   rif_by on None named at = tt
   rif_by on (Some b) named at = ((base_met on b named at, tt), tt)
 
@@ -196,7 +197,7 @@ module _ (plan : Ports) (rows : TypedRows) (closed : IsClosed rows) (read : (k :
   port_by port made (Some lane) each = (each lane, tt)
 
   own_by : (on : IfName) (ip : Ip) → AllIn AreMet (address_things plan on ip)
-  own_by (name.Ethernet port) ip = port_by port (λ lane. thing.Own ip) (lane_of plan port) (λ lane. tt)
+  own_by (name.Ethernet port) ip = port_by port (λ lane. thing.Own vrf.Default ip) (lane_of plan port) (λ lane. tt)
   own_by (name.Vlan vlan) ip = (tt, tt)
   own_by (name.Loopback number) ip = (tt, tt)
 

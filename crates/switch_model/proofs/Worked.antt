@@ -6,6 +6,7 @@ use Rattle.std.specs.List.Sorted.{IsStrictlySortedBy}
 use Rattle.swss_types.specs.declared.address.Family.TheVariants.{V4}
 use Rattle.swss_types.specs.declared.address.Prefix.{Prefix}
 use Rattle.swss_types.specs.declared.interface.IfName.TheVariants as name
+use Rattle.swss_types.specs.declared.vrf.Vrf.TheVariants as vrf
 use Rattle.table_schema.specs.Fields.{Pairs}
 use Rattle.table_schema.specs.Key.{key_cmp}
 use Rattle.table_schema.specs.KeyText.{key_of}
@@ -111,7 +112,7 @@ sent_from n (w ∷ ws) = record { from = 1; number = n; write = w } ∷ sent_fro
 
 -- room for each kind
 abbrev pub room : List ℕ
-room = 256 ∷ 4094 ∷ 256 ∷ 16384 ∷ 1024 ∷ 2048 ∷ 16384 ∷ 16384 ∷ 512 ∷ 16384 ∷ 65536 ∷ []
+room = 256 ∷ 4094 ∷ 256 ∷ 256 ∷ 16384 ∷ 1024 ∷ 2048 ∷ 16384 ∷ 16384 ∷ 512 ∷ 16384 ∷ 65536 ∷ []
 
 -- A port and its interface.
 abbrev pub wide_plan : Ports
@@ -130,13 +131,13 @@ abbrev pub first_port : Thing
 first_port = thing.Port (record { lanes = 0 ∷ 1 ∷ 2 ∷ 3 ∷ []; speed = 100000; mtu = 9100; up = true })
 
 abbrev pub first_interface : Thing
-first_interface = thing.Rif (base.Port 0)
+first_interface = thing.Rif (base.Port 0) vrf.Default
 
 pub first_view : IsExactly (desired_view wide_plan (rows_of first_writes)) (first_port ∷ first_interface ∷ [])
 first_view = view_is wide_plan (rows_of first_writes)
 
 abbrev pub first_calls : List (Call Rid)
-first_calls = call.Create (body.Port (0 ∷ 1 ∷ 2 ∷ 3 ∷ []) 100000 9100 true) ∷ call.Create (body.Rif (on.Port (record { 0 = 1 }))) ∷ []
+first_calls = call.Create (body.Port (0 ∷ 1 ∷ 2 ∷ 3 ∷ []) 100000 9100 true) ∷ call.Create (body.Rif None (on.Port (record { 0 = 1 }))) ∷ []
 
 first_calls_are_legal : AreLegal room 0 [] first_calls
 first_calls_are_legal = (refl, (refl, tt))
@@ -218,5 +219,5 @@ spelled_rows = refl
 host_bits_are_bad : row_of [] host_bits ((codes "blackhole", codes "true") ∷ []) ≡ Err (record { why = HostBits; field = 0 })
 host_bits_are_bad = refl
 
-spelled_view : IsExactly (desired_view [] (rows_of spelled_writes)) (thing.Route nine goal.Drop ∷ [])
+spelled_view : IsExactly (desired_view [] (rows_of spelled_writes)) (thing.Route vrf.Default nine goal.Drop ∷ [])
 spelled_view = view_is [] (rows_of spelled_writes)

@@ -1,7 +1,8 @@
 -- room and steadiness worked out on small tables by computation: nothing cites the examples, and they show that the definitions say what is meant
-use Rattle.std.proofs.Common.{◌≡◌, ◌⊎◌, inl, inr, ℕ, true, zero, suc, ◌+◌, ◌≤◌, List, [], ◌∷◌, length, map, refl, sym, ap, ◌∙◌, subst, arith}
+use Rattle.std.proofs.Common.{◌≡◌, ◌⊎◌, inl, inr, ℕ, true, zero, suc, ◌+◌, ◌≤◌, List, [], ◌∷◌, length, map, None, refl, sym, ap, ◌∙◌, subst, arith}
 use Rattle.swss_types.specs.declared.address.Family.TheVariants.{V4}
 use Rattle.swss_types.specs.declared.vrf.Packet.{Packet}
+use Rattle.swss_types.specs.declared.vrf.Vrf.TheVariants as vrf
 use Rattle.swss_types.specs.declared.address.Prefix.{Prefix}
 use Rattle.swss_types.specs.declared.interface.IfName.TheVariants as name
 use Rattle.table_schema.specs.declared.key.Key.TheVariants as key
@@ -86,6 +87,7 @@ none-le = omega arith
 two-fit : (kind : Kind) → 2 ≤ capacity_of room kind
 two-fit kind.Port = two-le 254
 two-fit kind.Vlan = two-le 4092
+two-fit kind.VirtualRouter = two-le 254
 two-fit kind.BridgePort = two-le 254
 two-fit kind.VlanMember = two-le 16382
 two-fit kind.Rif = two-le 1022
@@ -133,6 +135,7 @@ no-keys kind (k ∷ ks) are = let t = are.things k (inl refl) in absurd (nothing
 used-one : (kind : Kind) → used (chip_after first_calls 2) kind ≤ capacity_of one_each kind
 used-one kind.Port = one-le
 used-one kind.Vlan = none-le
+used-one kind.VirtualRouter = none-le
 used-one kind.BridgePort = none-le
 used-one kind.VlanMember = none-le
 used-one kind.Rif = one-le
@@ -151,10 +154,10 @@ abbrev net : Prefix
 net = record { ip = record { family = V4; bits = 167772160 }; len = 8 }
 
 abbrev route_calls : List (Call Rid)
-route_calls = call.Create (body.Port (0 ∷ 1 ∷ 2 ∷ 3 ∷ []) 100000 9100 true) ∷ call.Create (body.Rif (on.Port (record { 0 = 1 }))) ∷ call.Create (body.Route net (to.Rif (record { 0 = 2 }))) ∷ []
+route_calls = call.Create (body.Port (0 ∷ 1 ∷ 2 ∷ 3 ∷ []) 100000 9100 true) ∷ call.Create (body.Rif None (on.Port (record { 0 = 1 }))) ∷ call.Create (body.Route None net (to.Rif (record { 0 = 2 }))) ∷ []
 
 abbrev new_route : Thing
-new_route = thing.Route net (goal.Direct (base.Port 0))
+new_route = thing.Route vrf.Default net (goal.Direct (base.Port 0))
 
 before_route : things_after route_calls 2 ≡ first_port ∷ first_interface ∷ []
 before_route = refl
@@ -199,8 +202,8 @@ one_route_is_steady = record {
 far_address_is_nothing : things_of wide_plan (key.Addr (name.Ethernet 4) net.ip 24) row.Addr ≡ []
 far_address_is_nothing = refl
 
-loopback_address_is_own : things_of wide_plan (key.Addr (name.Loopback 0) net.ip 32) row.Addr ≡ thing.Own net.ip ∷ []
+loopback_address_is_own : things_of wide_plan (key.Addr (name.Loopback 0) net.ip 32) row.Addr ≡ thing.Own vrf.Default net.ip ∷ []
 loopback_address_is_own = refl
 
-near_address_is_own : things_of wide_plan (key.Addr (name.Ethernet 0) net.ip 24) row.Addr ≡ thing.Own net.ip ∷ []
+near_address_is_own : things_of wide_plan (key.Addr (name.Ethernet 0) net.ip 24) row.Addr ≡ thing.Own vrf.Default net.ip ∷ []
 near_address_is_own = refl

@@ -1,6 +1,7 @@
 -- The promises: what holds of a session's log and of the calls that its chip made. Own.
 use Rattle.std.specs.Prelude.{◌≡◌, ℕ, ◌≤◌, List, [], ◌∷◌, length, take, Option, Some, None}
 use Rattle.swss_types.specs.declared.address.Prefix.{Prefix}
+use Rattle.swss_types.specs.declared.vrf.Vrf.{Vrf}
 use Rattle.table_schema.specs.declared.key.Key.TheVariants as key
 use Rattle.table_schema.specs.declared.row.Row.{Row}
 use Rattle.table_schema.specs.declared.write.Sent.{Sent}
@@ -30,8 +31,8 @@ good_rows_at plan taken n = good_rows plan (rows_of (sent_writes (take n taken))
 
 -- each route on the chip is that of its prefix's good row after some number of the writes taken
 abbrev pub RoutesAreOfRows : Ports → List Sent → Objects → Type 0
-RoutesAreOfRows plan taken objects = (prefix : Prefix) (goal : Goal) → IsIn (Some (thing.Route prefix goal)) (named objects)
-    → (n : ℕ) × (row : Row) × (n ≤ length taken) × (good_rows_at plan taken n (key.Route prefix) ≡ Some row) × IsIn (thing.Route prefix goal) (things_of plan (key.Route prefix) row)
+RoutesAreOfRows plan taken objects = (v : Vrf) (prefix : Prefix) (goal : Goal) → IsIn (Some (thing.Route v prefix goal)) (named objects)
+    → (n : ℕ) × (row : Row) × (n ≤ length taken) × (good_rows_at plan taken n (key.Route prefix) ≡ Some row) × IsIn (thing.Route v prefix goal) (things_of plan (key.Route prefix) row)
 
 -- legality: every call that took effect found its references present and removed nothing referenced, and no route ever pointed where no row sent it
 pub record EffectsAreLegal (plan : Ports) (capacities : List ℕ) (taken : List Sent) (effects : List (Call Rid)) : Type 0 where

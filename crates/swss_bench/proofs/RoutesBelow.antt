@@ -36,7 +36,7 @@ push : (n : ℕ) (xs : ViewObjects) (x : Vid × ViewObject) → AreRoutesBelow n
 push n [] x h is = (is, tt)
 push n (y ∷ ys) x h is = (h.0, push n ys x h.1 is)
 
-pub made : (n : ℕ) (os : ViewObjects) (v : Vid) → AreRoutesBelow n os → AreRoutesBelow (n + 1) (after_create os v (body.Route (nth_prefix n) to.Drop))
+pub made : (n : ℕ) (os : ViewObjects) (v : Vid) → AreRoutesBelow n os → AreRoutesBelow (n + 1) (after_create os v (body.Route None (nth_prefix n) to.Drop))
 made n os v h = push (n + 1) os _ (more n os h) (n, omega arith, refl)
 
 either : (n : ℕ) (x : Vid × ViewObject) (xs : ViewObjects) (v : Vid) → AreRoutesBelow n (x ∷ xs) → AreRoutesBelow n (without_object xs v) → (b : Bool) → AreRoutesBelow n (cond b xs (x ∷ without_object xs v))
@@ -80,17 +80,17 @@ not_any p (o ∷ os) e b new none =
     let rest = or-false-right (p o) (list_any p os) none in
     put_any p o os e b new first rest (not_any p os e b new rest) (entry_cmp e o.0)
 
-free : (n : ℕ) (os : ViewObjects) → AreRoutesBelow n os → list_any (λ o. clash (body.Route (nth_prefix n) to.Drop) o.1) (as_chip os) ≡ false
+free : (n : ℕ) (os : ViewObjects) → AreRoutesBelow n os → list_any (λ o. clash (body.Route None (nth_prefix n) to.Drop) o.1) (as_chip os) ≡ false
 free n [] h = refl
 free n (x ∷ xs) h =
-    not_any (λ o. clash (body.Route (nth_prefix n) to.Drop) o.1) (as_chip xs) _ (body_renamed as_rid x.1.body)
-    (λ d. ap (λ b. clash (body.Route (nth_prefix n) to.Drop) (body_renamed as_rid b)) h.0.2 ∙ apart n h.0.0 h.0.1) (free n xs h.1)
+    not_any (λ o. clash (body.Route None (nth_prefix n) to.Drop) o.1) (as_chip xs) _ (body_renamed as_rid x.1.body)
+    (λ d. ap (λ b. clash (body.Route None (nth_prefix n) to.Drop) (body_renamed as_rid b)) h.0.2 ∙ apart n h.0.0 h.0.1) (free n xs h.1)
 
 -- so it can be made
-pub legal : (n : ℕ) (os : ViewObjects) → AreRoutesBelow n os → IsLegalOn os (call.Create (body.Route (nth_prefix n) to.Drop))
+pub legal : (n : ℕ) (os : ViewObjects) → AreRoutesBelow n os → IsLegalOn os (call.Create (body.Route None (nth_prefix n) to.Drop))
 legal n os h =
     let many = used (as_chip os) kind.Route in
     record {
-      capacities = 0 ∷ 0 ∷ 0 ∷ 0 ∷ 0 ∷ 0 ∷ 0 ∷ 0 ∷ 0 ∷ 0 ∷ (many + 1) ∷ [];
+      capacities = 0 ∷ 0 ∷ 0 ∷ 0 ∷ 0 ∷ 0 ∷ 0 ∷ 0 ∷ 0 ∷ 0 ∷ 0 ∷ (many + 1) ∷ [];
       legal = ap₂ (λ a f. first_refusal a Exists (first_refusal f Full None)) (free n os h) (lt-leb (many + 1) many (omega arith));
     }

@@ -1,5 +1,5 @@
 -- Routes by their numbers, as a benchmark makes them. Own.
-use Rattle.std.specs.Prelude.{◌≡◌, ℕ, ◌<◌, ◌+◌, ◌*◌}
+use Rattle.std.specs.Prelude.{◌≡◌, ℕ, ◌<◌, ◌+◌, ◌*◌, None}
 use Rattle.std.specs.List.{AllByRecursion}
 use Rattle.swss_types.specs.declared.address.Family.TheVariants as family
 use Rattle.swss_types.specs.declared.address.Prefix.{Prefix}
@@ -15,7 +15,7 @@ nth_prefix n = record { ip = record { family = family.V4; bits = 184549376 + n *
 
 -- a route to nowhere of a number below this one
 abbrev pub IsRouteBelow : ℕ → Vid × ViewObject → Type 0
-IsRouteBelow n x = (j : ℕ) × (j < n) × (x.1.body ≡ body.Route (nth_prefix j) to.Drop)
+IsRouteBelow n x = (j : ℕ) × (j < n) × (x.1.body ≡ body.Route None (nth_prefix j) to.Drop)
 
 abbrev pub AreRoutesBelow : ℕ → ViewObjects → Type 0
 AreRoutesBelow n objects = AllByRecursion (IsRouteBelow n) objects

@@ -13,7 +13,7 @@ use std::time::{Clock, Instant};
 
 /// The capacities of a switch, in the order of `Kind`.
 const CAPACITIES: Caps = Caps([
-    256, 4094, 256, 16_384, 1024, 2048, 16_384, 16_384, 512, 16_384, 65_536,
+    256, 4094, 256, 256, 16_384, 1024, 2048, 16_384, 16_384, 512, 16_384, 65_536,
 ]);
 
 /// Makes, sets and removes so many routes on a new chip, and tells the time of a call.

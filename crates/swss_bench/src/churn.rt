@@ -86,6 +86,7 @@ fn make(view: &mut View, made: &mut Vec<Vid>, route: u32) -> Result<()>
     ensures { IfOk result (λ done. AreRoutesBelow (route + 1) view.new.objects) }
 {
     let vid = view.create(Body::Route {
+        vr: None,
         prefix: prefix(route),
         to: To::Drop,
     })?;

@@ -6,9 +6,10 @@
 //!
 //! The kinds are `texts`, `chip` and `plans` (crate `part_cases`), `core` (crate `core_cases`), `rounds`, `scripts`,
 //! `statuses` and `examples`; what the lines of a kind mean stands at the head of its file. `examples` has no lines, and stands
-//! for the scripts of the folder that the program runs in. Lines that are empty or begin with `#` are skipped. What differs is printed by the name of its
-//! case, then how many cases of each kind passed and failed, and in the last line how many of all; the exit status is 1 where
-//! one failed, and where a kind has no case. With a word the program reads no cases, and runs the examples of that folder.
+//! for the scripts of the folder that the program runs in. Lines that are empty or begin with `#` are skipped. What differs is
+//! printed by the name of its case, then how many cases of each kind passed and failed, and in the last line how many of all;
+//! the exit status is 1 where one failed, and where a kind has no case. With a word the program reads no cases, and runs the
+//! examples of that folder.
 #![tactic(auto)]
 
 mod examples;

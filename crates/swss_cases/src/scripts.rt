@@ -9,7 +9,7 @@
 // taken N              how many writes are taken
 // senders P/N P/N ..   the producer and number of each write taken
 // ends N N ..          how many marks there are at the end of each round
-// chip yes              that there is a chip at the end, or `no`
+// chip yes             that there is a chip at the end, or `no`
 // source-fails N C     the source gives N bytes at once and fails at its call C; the case is run from this one alone
 // sink-fails N C       the sink takes N bytes at once and fails at its call C; the case is run into this one alone
 // once                 the case takes long, and is run from the first of the two sources alone

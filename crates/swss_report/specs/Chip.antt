@@ -1,12 +1,12 @@
 -- What stands on the chip, as the report lists it. Own.
-use Rattle.std.specs.Prelude.{List, ◌++◌, length, flat_map, codes, ℕ}
+use Rattle.std.specs.Prelude.{List, ◌++◌, count_by, flat_map, codes, ℕ}
 use Rattle.std.specs.List.Sorted.{IsPermutation, IsSorted}
 use Rattle.table_schema.specs.Plan.{Ports}
 use Rattle.sai_types.specs.Named.{named, those}
 use Rattle.sai_types.specs.Objects.{Objects}
 use Rattle.sai_types.specs.declared.thing.Thing.{Thing}
-use Rattle.chip_names.specs.Naming.{thing_cmp}
-use Rattle.swss_report.specs.ChipLine.{chip_line}
+use Rattle.sai_types.specs.Order.{thing_cmp}
+use Rattle.swss_report.specs.ChipLine.{chip_line, has_line}
 use Rattle.swss_report.specs.Counted.{count_line}
 
 -- what stands on the chip, in the order of the report: by kind, and within a kind by natural key
@@ -14,6 +14,6 @@ pub record Stand (objects : Objects) (things : List Thing) : Type 0 where
   pub stand : IsPermutation (those (named objects)) things
   pub ordered : IsSorted thing_cmp things
 
--- how many things there are, and their lines
+-- how many things have lines, and these
 abbrev pub chip_text : Ports → List Thing → List ℕ
-chip_text plan things = count_line (codes "chip ") (length things) ++ flat_map (λ t. chip_line plan t) things
+chip_text plan things = count_line (codes "chip ") (count_by has_line things) ++ flat_map (λ t. chip_line plan t) things

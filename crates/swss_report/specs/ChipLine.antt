@@ -7,10 +7,14 @@ use Rattle.swss_types.specs.Lanes.{lanes_text}
 use Rattle.swss_types.specs.Mac.{mac_text}
 use Rattle.swss_types.specs.Prefix.{prefix_text}
 use Rattle.swss_types.specs.Tagging.{tagging_text}
+use Rattle.swss_types.specs.VrfNames.{vrf_name_text}
 use Rattle.swss_types.specs.declared.tagging.Tagging.{Tagging}
 use Rattle.swss_types.specs.declared.interface.IfName.TheVariants as name
+use Rattle.swss_types.specs.declared.vrf.Vrf.{Vrf}
+use Rattle.swss_types.specs.declared.vrf.Vrf.TheVariants as vrf
 use Rattle.table_schema.specs.Plan.{Ports, port_named}
 use Rattle.sai_types.specs.Named.{first_lane}
+use Rattle.sai_types.specs.Names.{thing_kind}
 use Rattle.sai_types.specs.declared.hop.Base.{Base}
 use Rattle.sai_types.specs.declared.hop.Base.TheVariants as base
 use Rattle.sai_types.specs.declared.hop.Hop.{Hop}
@@ -20,6 +24,7 @@ use Rattle.sai_types.specs.declared.thing.Goal.TheVariants as goal
 use Rattle.sai_types.specs.declared.thing.PortThing.{PortThing}
 use Rattle.sai_types.specs.declared.thing.Thing.{Thing}
 use Rattle.sai_types.specs.declared.thing.Thing.TheVariants as thing
+use Rattle.swss_report.specs.Kinds.{has_lines}
 
 abbrev pub port_text : Option ℕ → List ℕ
 port_text None = []
@@ -63,20 +68,30 @@ goal_text plan (goal.Group hops) = codes " group " ++ hops_text plan hops
 abbrev pub membership_text : Ports → ℕ → ℕ → Tagging → List ℕ
 membership_text plan vlan lane tagging = if_name_text (name.Vlan vlan) ++ 32 ∷ (port_text (port_named plan lane) ++ 32 ∷ tagging_text tagging)
 
+-- the virtual router that something is in, unless it is the default one
+abbrev pub router_text : Vrf → List ℕ
+router_text vrf.Default = []
+router_text (vrf.Named label) = codes " in " ++ vrf_name_text label
+
 -- the words of a thing
 abbrev pub thing_text : Ports → Thing → List ℕ
 thing_text plan (thing.Port port) = port_line plan port
 thing_text plan (thing.Vlan vlan) = codes "VLAN " ++ base_text plan (base.Vlan vlan)
+thing_text plan (thing.VirtualRouter label) = codes "VIRTUAL_ROUTER " ++ vrf_name_text label
 thing_text plan (thing.BridgePort lane) = codes "BRIDGE_PORT " ++ base_text plan (base.Port lane)
 thing_text plan (thing.VlanMember vlan lane tagging) = codes "VLAN_MEMBER " ++ membership_text plan vlan lane tagging
-thing_text plan (thing.Rif b) = codes "RIF " ++ base_text plan b
-thing_text plan (thing.Own ip) = codes "OWN_ADDRESS " ++ ip_text ip
+thing_text plan (thing.Rif b v) = codes "RIF " ++ base_text plan b ++ router_text v
+thing_text plan (thing.Own v ip) = codes "OWN_ADDRESS " ++ ip_text ip ++ router_text v
 thing_text plan (thing.Neighbor hop mac) = codes "NEIGHBOR " ++ base_text plan hop.on ++ 32 ∷ ip_text hop.ip ++ 32 ∷ mac_text mac
 thing_text plan (thing.NextHop hop) = codes "NEXT_HOP " ++ hop_text plan hop
 thing_text plan (thing.Group hops) = codes "GROUP " ++ hops_text plan hops
 thing_text plan (thing.GroupMember hops hop) = codes "GROUP_MEMBER " ++ hops_text plan hops ++ 32 ∷ whop_text plan hop
-thing_text plan (thing.Route prefix goal) = codes "ROUTE " ++ prefix_text prefix ++ goal_text plan goal
+thing_text plan (thing.Route v prefix goal) = codes "ROUTE " ++ prefix_text prefix ++ router_text v ++ goal_text plan goal
 
--- the line of a thing
+-- whether a thing has a line
+abbrev pub has_line : Thing → Bool
+has_line t = has_lines (thing_kind t)
+
+-- the line of a thing, where it has one
 abbrev pub chip_line : Ports → Thing → List ℕ
-chip_line plan t = thing_text plan t ++ 10 ∷ []
+chip_line plan t = if has_line t then thing_text plan t ++ 10 ∷ [] else []

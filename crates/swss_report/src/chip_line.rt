@@ -1,20 +1,31 @@
 // The line of a thing that stands on the chip.
 ghost use Rattle.std.specs.Prelude.{◌≡◌, ◌∷◌, ◌++◌, flat_map, OnOk};
-ghost use Rattle.swss_report.specs.ChipLine.{base_text, chip_line, goal_text, hop_text, hops_text, membership_text, port_line, port_text, thing_text, weight_text, whop_text};
+ghost use Rattle.swss_report.specs.ChipLine.{base_text, chip_line, goal_text, has_line, hop_text, hops_text, membership_text, port_line, port_text, router_text, thing_text, weight_text, whop_text};
 ghost use Rattle.swss_types.specs.Tagging.{tagging_text};
 ghost use Rattle.table_schema.specs.Plan.{port_named};
 
 use sai_types::{Base, Goal, Hop, PortThing, Thing, WHop, Weight};
-use swss_types::{IfName, Mac, OutOfMemory, Tagging, write_number};
+use swss_types::{IfName, Mac, OutOfMemory, Tagging, Vrf, write_number};
 use table_schema::PortPlan;
 
-/// Appends the line of a thing, with its end. Ports go by their names in the plan. An Err may leave a part of it.
+/// Appends the line of a thing, with its end, where it has one. Ports go by their names in the plan. An Err may leave a
+/// part of it.
 pub fn write_chip_line(out: &mut Vec<u8>, plan: &PortPlan, thing: &Thing) -> Result<(), OutOfMemory>
     ensures { OnOk result (out.new.items ≡ out.old.items ++ chip_line plan.now thing.now) }
 {
+    if !has_line(thing) {
+        return Ok(());
+    }
     write_thing(out, plan, thing)?;
     out.push(b'\n')?;
     Ok(())
+}
+
+/// Whether a thing has a line: a virtual router has none.
+pub(crate) fn has_line(thing: &Thing) -> bool
+    ensures { result ≡ has_line thing.now }
+{
+    !matches!(thing, Thing::VirtualRouter(_))
 }
 
 /// Appends the words of a thing.
@@ -31,15 +42,21 @@ pub(crate) fn write_thing(
             out.extend_from_slice(b"VLAN ")?;
             IfName::Vlan(*vlan).write(out)?;
         }
+        Thing::VirtualRouter(label) => {
+            out.extend_from_slice(b"VIRTUAL_ROUTER ")?;
+            label.write(out)?;
+        }
         Thing::BridgePort(lane) => write_bridge_port(out, plan, *lane)?,
         Thing::VlanMember(vlan, lane, tagging) => write_member(out, plan, *vlan, *lane, *tagging)?,
-        Thing::Rif(base) => {
+        Thing::Rif(base, vrf) => {
             out.extend_from_slice(b"RIF ")?;
             write_base(out, plan, base)?;
+            write_router(out, vrf)?;
         }
-        Thing::Own(ip) => {
+        Thing::Own(vrf, ip) => {
             out.extend_from_slice(b"OWN_ADDRESS ")?;
             ip.write(out)?;
+            write_router(out, vrf)?;
         }
         Thing::Neighbor(hop, mac) => write_neighbor(out, plan, hop, mac)?,
         Thing::NextHop(hop) => {
@@ -56,13 +73,27 @@ pub(crate) fn write_thing(
             out.push(b' ')?;
             write_whop(out, plan, whop)?;
         }
-        Thing::Route(prefix, goal) => {
+        Thing::Route(vrf, prefix, goal) => {
             out.extend_from_slice(b"ROUTE ")?;
             prefix.write(out)?;
+            write_router(out, vrf)?;
             write_goal(out, plan, goal)?;
         }
     }
     Ok(())
+}
+
+/// The virtual router that something is in, unless it is the default one.
+fn write_router(out: &mut Vec<u8>, vrf: &Vrf) -> Result<(), OutOfMemory>
+    ensures { OnOk result (out.new.items ≡ out.old.items ++ router_text vrf.now) }
+{
+    match vrf {
+        Vrf::Default => Ok(()),
+        Vrf::Named(label) => {
+            out.extend_from_slice(b" in ")?;
+            label.write(out)
+        }
+    }
 }
 
 /// A bridge port, by its port.

@@ -10,7 +10,7 @@ use crate::chip_line::{write_base, write_whop};
 use sai_chip::{Forward, SimChip};
 use sai_types::WHop;
 use std::alloc::Global;
-use swss_types::{Ip, Mac, OutOfMemory};
+use swss_types::{Ip, Mac, OutOfMemory, Vrf};
 use table_schema::PortPlan;
 
 /// Appends the line of an address: where the chip sends its packets. An Err may leave a part of it.
@@ -23,7 +23,7 @@ pub(crate) fn write_forward(
 ) -> Result<(), OutOfMemory>
     ensures { OnOk result (out.new.items ≡ out.old.items ++ forward_text plan.now ip.now (answer_of (forward (those (named chip.now.objects)) (packet_to ip.now)))) }
 {
-    let answer = chip.forward(alloc, *ip)?;
+    let answer = chip.forward(alloc, Vrf::Default, *ip)?;
     out.extend_from_slice(b"forward ")?;
     ip.write(out)?;
     write_answer(out, plan, &answer)?;

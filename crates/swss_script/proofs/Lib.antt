@@ -1,8 +1,6 @@
 pub mod Batches
 pub mod Blanks
 pub mod FewWrites
-pub mod Images
-pub mod Joins
 pub mod Kept
 pub mod LinesIn
 pub mod Numbered

@@ -183,8 +183,8 @@ still-head : (d e : Draft) (line : HeadLine) → with_head d line ≡ Ok e → I
 still-head d e (head.Port text) h = still-plan d e (plan_step d.script.plan text) h
 still-head d e (head.Chip kind most) h = still-if _ _ d _ e (record { place = refl; block = refl; rounds = refl; sections = refl; acts = refl }) h
 still-head d e (head.Fail fail) h = still-if _ _ d _ e (record { place = refl; block = refl; rounds = refl; sections = refl; acts = refl }) h
-still-head d e (head.Image None) h = still-to d d e (record { place = refl; block = refl; rounds = refl; sections = refl; acts = refl }) (same-ok _ _ h)
-still-head d e (head.Image (Some fault)) h = cc
+still-head d e (head.Image (Ok rows)) h = still-to d _ e (record { place = refl; block = refl; rounds = refl; sections = refl; acts = refl }) (same-ok _ _ h)
+still-head d e (head.Image (Err fault)) h = cc
 
 pub still-in_head : (p : Place) (d e : Draft) (line : Option HeadLine) → in_head p d line ≡ Ok e → IsStill d e
 still-in_head place.Head d e (Some line) h = still-head d e line h

@@ -55,8 +55,8 @@ kept-head : (d d' : Draft) (line : HeadLine) → with_head d line ≡ Ok d' → 
 kept-head d d' (head.Port text) h = kept-plan d d' (plan_step d.script.plan text) h
 kept-head d d' (head.Chip kind most) h = kept-if _ _ d _ d' refl h
 kept-head d d' (head.Fail fail) h = kept-if _ _ d _ d' refl h
-kept-head d d' (head.Image None) h = kept-to d d d' refl (same-ok _ _ h)
-kept-head d d' (head.Image (Some fault)) h = cc
+kept-head d d' (head.Image (Ok rows)) h = kept-to d _ d' refl (same-ok _ _ h)
+kept-head d d' (head.Image (Err fault)) h = cc
 
 pub kept-in_head : (p : Place) (d d' : Draft) (line : Option HeadLine) → in_head p d line ≡ Ok d' → AreKept d d'
 kept-in_head place.Head d d' (Some line) h = kept-head d d' line h

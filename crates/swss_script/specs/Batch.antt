@@ -1,28 +1,15 @@
 -- A batch: a list of writes in JSON. Own, but for what the JSON means, which is serde_json's reading.
-use Rattle.std.specs.Prelude.{ℕ, ◌==◌, List, [], ◌∷◌, Option, Some, None, option_map, option_and_then, codes, bytes_eq, if◌then◌else◌}
-use Rattle.std.specs.List.{list_any}
+use Rattle.std.specs.Prelude.{ℕ, List, [], ◌∷◌, Option, Some, None, option_map, option_and_then, codes, bytes_eq, if◌then◌else◌}
 use Rattle.std.specs.Str.{is_utf8}
 use Rattle.serde_json.specs.Data.{Data, Items, no_items, item, Members, no_members, member}
 use Rattle.serde_json.specs.Find.{as_array, as_object, as_str}
 use Rattle.serde_json.specs.Read.{read}
 use Rattle.table_schema.specs.Fields.{Pairs}
-use Rattle.table_schema.specs.KeyText.{key_of}
 use Rattle.table_schema.specs.declared.key.Key.{Key}
 use Rattle.table_schema.specs.declared.write.Write.{Write}
 use Rattle.table_schema.specs.declared.write.Write.TheVariants as write
-use Rattle.swss_script.specs.Fields.{set_fields, with_field}
-
--- a key has a colon
-abbrev pub key_in_word : List ℕ → Option Key
-key_in_word word = if list_any (λ byte. byte == 58) word then Some (key_of word) else None
-
-abbrev pub text_field : List ℕ → Option (List ℕ) → Option (List ℕ × List ℕ)
-text_field name value = option_map (λ text. (name, text)) value
-
--- the fields of an object whose values are all strings
-abbrev pub texts_in : Members → Option Pairs
-texts_in no_members = Some []
-texts_in (member name value others) = with_field (text_field name (as_str value)) (texts_in others)
+pub use Rattle.swss_image.specs.Texts.{key_in_word, texts_in}
+use Rattle.swss_script.specs.Fields.{set_fields}
 
 -- the write of an operation: the fields of a DEL have no meaning
 abbrev pub write_named : List ℕ → Key → Pairs → Option Write

@@ -2,7 +2,6 @@ pub mod Batch
 pub mod Built
 pub mod Fails
 pub mod Fields
-pub mod Image
 pub mod Line
 pub mod Lines
 pub mod Plain

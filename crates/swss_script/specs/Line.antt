@@ -9,9 +9,9 @@ use Rattle.sai_types.specs.declared.kind.Kind.TheVariants as kind
 use Rattle.table_schema.specs.Fields.{Pairs}
 use Rattle.table_schema.specs.declared.key.Key.{Key}
 use Rattle.table_schema.specs.declared.write.Write.TheVariants as write
+use Rattle.swss_image.specs.Loaded.{image_of}
 use Rattle.swss_script.specs.Batch.{batch_of, key_in_word}
 use Rattle.swss_script.specs.Fields.{fields_of, set_fields}
-use Rattle.swss_script.specs.Image.{image_fault}
 use Rattle.swss_script.specs.Words.{behind_word, two_words, words_in}
 use Rattle.swss_script.specs.declared.line.TheConstants.{MOST_CAPACITY, MOST_CALL}
 use Rattle.swss_script.specs.declared.line.HeadLine.{HeadLine}
@@ -66,7 +66,7 @@ fail_line words = option_and_then (λ parts. fail_with (number_within MOST_CALL 
 -- `image JSON`
 abbrev pub image_line : List (List ℕ) → List ℕ → Option HeadLine
 image_line [] text = None
-image_line (word ∷ words) text = Some (head.Image (image_fault text))
+image_line (word ∷ words) text = Some (head.Image (image_of text))
 
 -- a producer's name has letters, digits, `_` and `-`
 abbrev pub is_name : List ℕ → Bool

@@ -5,7 +5,9 @@ use Rattle.sai_types.specs.Objects.{level}
 use Rattle.sai_types.specs.declared.caps.Caps.{Caps}
 use Rattle.sai_types.specs.declared.kind.Kind.{Kind}
 use Rattle.table_schema.specs.Plan.{Ports, plan_step}
+use Rattle.table_schema.specs.Rows.{Rows}
 use Rattle.table_schema.specs.declared.plan.PlanWhy.{PlanWhy}
+use Rattle.swss_image.specs.declared.fault.ImageFault.{ImageFault}
 use Rattle.swss_script.specs.Batch.{batch_of}
 use Rattle.swss_script.specs.Built.{is_built}
 use Rattle.swss_script.specs.Line.{is_block, script_line_of}
@@ -80,14 +82,18 @@ with_fail d fail =
     if list_any (λ other. other.at == fail.at) d.script.fails then Err why.HeadTwice
     else Ok (record d { script = record d.script { fails = d.script.fails ++ fail ∷ [] } })
 
--- a line of the head. A good image adds nothing before the service has images, and is refused as the last thing: so no line is read
--- behind it, and the second image of a script, which is one too many before its JSON is read, cannot be met
+-- the rows that the service begins with
+abbrev pub with_image : Draft → Result Rows ImageFault → Result Draft Why
+with_image d (Ok rows) = Ok (record d { script = record d.script { image = rows } })
+with_image d (Err fault) = Err (why.BadImage fault)
+
+-- a line of the head. Before the service has images a good one is refused as the last thing: so no line is read behind it, and the
+-- second image of a script, which is one too many before its JSON is read, cannot be met
 abbrev pub with_head : Draft → HeadLine → Result Draft Why
 with_head d (head.Port text) = with_plan d (plan_step d.script.plan text)
 with_head d (head.Chip kind most) = with_capacity d kind most
 with_head d (head.Fail fail) = with_fail d fail
-with_head d (head.Image None) = Ok d
-with_head d (head.Image (Some fault)) = Err (why.BadImage fault)
+with_head d (head.Image image) = with_image d image
 
 abbrev pub in_head : Place → Draft → Option HeadLine → Result Draft Why
 in_head place.Head d (Some line) = with_head d line
@@ -168,7 +174,7 @@ script_from (Ok d) number (line ∷ lines) = script_from (step d (number + 1) li
 abbrev pub new_draft : Draft
 new_draft = record {
   script = record { plan = []; caps = default_caps; fails = []; image = []; producers = []; rounds = [] };
-  kinds = false ∷ false ∷ false ∷ false ∷ false ∷ false ∷ false ∷ false ∷ false ∷ false ∷ false ∷ [];
+  kinds = false ∷ false ∷ false ∷ false ∷ false ∷ false ∷ false ∷ false ∷ false ∷ false ∷ false ∷ false ∷ [];
   place = place.Head;
   sections = [];
   acts = [];

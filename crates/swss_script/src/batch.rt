@@ -1,15 +1,16 @@
 // Batches: lists of writes in JSON.
-ghost use Rattle.std.specs.Prelude.{◌≡◌, IfOk, option_and_then, option_map};
+ghost use Rattle.std.specs.Prelude.{◌≡◌, IfOk, option_and_then};
 ghost use Rattle.serde_json.specs.Find.{as_object};
 ghost use Rattle.serde_json.specs.View.{items_view, members_view, view};
-ghost use Rattle.swss_script.specs.Batch.{batch_of, key_in_word, texts_in, write_in, write_of, writes_of_items};
+ghost use Rattle.swss_script.specs.Batch.{batch_of, write_in, write_of, writes_of_items};
 
 use crate::Writes;
-use crate::fields::{copy_text, set_fields};
+use crate::fields::set_fields;
 use serde_json::{Map, Value};
 use std::alloc::Global;
-use swss_types::{OutOfMemory, Text};
-use table_schema::{Key, Write, read_key};
+use swss_image::{key_in_word, read_texts};
+use swss_types::OutOfMemory;
+use table_schema::Write;
 
 /// The writes of a batch, or None where the text is none: a list of objects, each with the member `OP`, which is `SET`
 /// or `DEL`, and one that is named by a key and holds an object of strings.
@@ -100,35 +101,4 @@ fn read_write(
         "DEL" => Ok(Some(Write::Del(key))),
         _ => Ok(None),
     }
-}
-
-/// The key that a word is, or None where it has no colon.
-pub fn key_in_word(alloc: Global, word: &str) -> Result<Option<Key>, OutOfMemory>
-    ensures { IfOk result (λ key. key ≡ key_in_word word.now) }
-{
-    if word.as_bytes().contains(&b':') {
-        Ok(Some(read_key(alloc, word.as_bytes())?))
-    } else {
-        Ok(None)
-    }
-}
-
-/// The names and values of an object, or None where a value is no string.
-fn read_texts(
-    alloc: Global,
-    members: Map<String, Value>,
-) -> Result<Option<Vec<(Text, Text)>>, OutOfMemory>
-    ensures { IfOk result (λ texts. option_map (λ t. t.items) texts ≡ texts_in (members_view members.entries)) }
-{
-    let mut texts = Vec::new(alloc);
-    for (name, value) in members {
-        let Value::String(value) = value else {
-            return Ok(None);
-        };
-        texts.push((
-            copy_text(alloc, name.as_str())?,
-            copy_text(alloc, value.as_str())?,
-        ))?;
-    }
-    Ok(Some(texts))
 }

@@ -1,7 +1,7 @@
 // A script while its lines are read.
 ghost use Rattle.std.specs.Prelude.{◌≡◌, ◌≤◌, [], ◌∷◌, IfOk, OnOk, bytes_eq, length, map};
 ghost use Rattle.std.specs.List.{position};
-ghost use Rattle.swss_script.specs.Script.{Becomes, add, new_draft, ended, in_head, in_section, producer_named, draft_round_ended, script_at, section_begun, section_ended, round_settled, shown_in, with_capacity, with_fail, with_head, draft_with_line};
+ghost use Rattle.swss_script.specs.Script.{Becomes, add, new_draft, ended, in_head, in_section, producer_named, draft_round_ended, script_at, section_begun, section_ended, round_settled, shown_in, with_capacity, with_fail, with_head, with_image, draft_with_line};
 ghost use Rattle.swss_script.specs.declared.line.HeadLine.TheVariants as head;
 ghost use Rattle.swss_script.specs.declared.parts.Act.TheVariants as act;
 
@@ -15,12 +15,13 @@ use row_store::Rows;
 use sai_types::{Caps, KINDS, Kind};
 use std::alloc::Global;
 use std::mem::{self, drop};
+use swss_image::ImageFault;
 use swss_types::{OutOfMemory, Text};
 use table_schema::PortPlan;
 
 /// The capacities of a chip, where the head sets none.
 pub const DEFAULT_CAPS: Caps = Caps([
-    256, 4094, 256, 16384, 1024, 2048, 16384, 16384, 512, 16384, 65536,
+    256, 4094, 256, 256, 16384, 1024, 2048, 16384, 16384, 512, 16384, 65536,
 ]);
 
 /// The most producers of a script.
@@ -121,8 +122,7 @@ impl Draft {
             (Place::Head, Some(HeadLine::Port(text))) => self.add_port(text),
             (Place::Head, Some(HeadLine::Chip(kind, most))) => Ok(self.set_capacity(kind, most)),
             (Place::Head, Some(HeadLine::Fail(fail))) => self.add_fail(fail),
-            (Place::Head, Some(HeadLine::Image(None))) => Ok(Ok(())),
-            (Place::Head, Some(HeadLine::Image(Some(fault)))) => Ok(Err(Why::BadImage(fault))),
+            (Place::Head, Some(HeadLine::Image(image))) => Ok(self.set_image(image)),
             _ => Ok(Err(Why::BadHead)),
         }
     }
@@ -159,6 +159,19 @@ impl Draft {
         }
         self.script.fails.push(fail)?;
         Ok(Ok(()))
+    }
+
+    /// Sets the rows that the service begins with.
+    fn set_image(&mut self, image: Result<Rows, ImageFault>) -> Result<(), Why>
+        ensures { Becomes (with_image self.old image) result self.new }
+    {
+        match image {
+            Ok(rows) => {
+                drop(mem::replace(&mut self.script.image, rows));
+                Ok(())
+            }
+            Err(fault) => Err(Why::BadImage(fault)),
+        }
     }
 
     /// Begins a section of a producer, by its name.

@@ -7,7 +7,6 @@ mod copies;
 mod draft;
 mod fails;
 mod fields;
-mod image;
 mod laws;
 mod line;
 mod lines;
@@ -25,5 +24,5 @@ pub use laws::{
 };
 pub use lists::{Acts, Producers, RoundList, Sections, Shows, Writes};
 pub use parts::{Act, Fail2, Round, Section, Show};
-pub use refused::{ImageFault, Refused, Why};
+pub use refused::{Refused, Why};
 pub use script::{MOST_BYTES, MOST_LINES, Script};

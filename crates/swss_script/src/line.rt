@@ -4,13 +4,14 @@ ghost use Rattle.std.specs.List.{starts_with};
 ghost use Rattle.swss_script.specs.Line.{word_alone, chip_head, del_line, fail_line, forward_to, image_line, is_after, is_block, is_name, json_line, kind_of_word, line_by, script_line_of, port_head, producer_line, set_line, show_line, show_of, shown};
 ghost use Rattle.swss_script.specs.Words.{words_in};
 
-use crate::batch::{key_in_word, read_batch};
+use crate::batch::read_batch;
 use crate::fields::{copy_text, read_fields, set_fields};
-use crate::image::read_image_fault;
 use crate::words::{next_word, one_word, two_words};
-use crate::{Fail2, ImageFault, Show, Writes};
+use crate::{Fail2, Show, Writes};
+use row_store::Rows;
 use sai_types::Kind;
 use std::alloc::Global;
+use swss_image::{ImageFault, key_in_word, load};
 use swss_types::{Ip, OutOfMemory, Text, read_number};
 use table_schema::Write;
 
@@ -54,8 +55,8 @@ pub enum HeadLine {
     Chip(Kind, u64),
     /// A chip call fails.
     Fail(Fail2),
-    /// An image, with the fault that it has or None.
-    Image(Option<ImageFault>),
+    /// The rows of an image, or the fault that it has.
+    Image(Result<Rows, ImageFault>),
 }
 
 /// Whether a block begins with a line.
@@ -182,7 +183,7 @@ fn read_image(alloc: Global, text: &str) -> Result<Option<HeadLine>, OutOfMemory
     ensures { IfOk result (λ line. line ≡ image_line (words_in text.now) text.now) }
 {
     match next_word(text) {
-        Some(_) => Ok(Some(HeadLine::Image(read_image_fault(alloc, text.as_bytes())?))),
+        Some(_) => Ok(Some(HeadLine::Image(load(alloc, text.as_bytes())?))),
         None => Ok(None),
     }
 }

@@ -1,4 +1,5 @@
 // Why a script is refused.
+use swss_image::ImageFault;
 use table_schema::PlanWhy;
 
 /// Why a script is refused: the first of these that holds of its first faulty line.
@@ -28,17 +29,6 @@ pub enum Why {
     BadWord,
     /// It has a form that the service does not have yet.
     NotYet,
-}
-
-/// Why an image is refused.
-#[derive(Clone, Copy, Debug, PartialEq, Eq)]
-pub enum ImageFault {
-    /// It is no JSON.
-    NotJson,
-    /// It has this version.
-    BadVersion(u64),
-    /// It has not the form of an image.
-    BadShape,
 }
 
 /// A script that was refused: the line, counted from 1 and 0 for the script as a whole, and the reason.

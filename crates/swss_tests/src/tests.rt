@@ -3,6 +3,7 @@ mod actors;
 mod common;
 mod copies;
 mod fields;
+mod images;
 mod log;
 mod names;
 mod outside;

@@ -24,8 +24,10 @@ pub mod Lists
 pub mod Macs
 pub mod Names
 pub mod Risings
+pub mod Routers
 pub mod SameValues
 pub mod Tied
 pub mod Truths
+pub mod VrfNames
 pub mod Maps
 pub mod Most

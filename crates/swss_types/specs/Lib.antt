@@ -18,3 +18,5 @@ pub mod Parts
 pub mod Prefix
 pub mod Tagging
 pub mod Text
+pub mod Vrf
+pub mod VrfNames

@@ -12,6 +12,7 @@ ghost use Rattle.swss_types.specs.Mac.{mac_of, mac_text, IsProperMac};
 ghost use Rattle.swss_types.specs.Number.{number_of};
 ghost use Rattle.swss_types.specs.Prefix.{interface_address_of, interface_address_text, prefix_of, prefix_text, IsProperInterfaceAddress};
 ghost use Rattle.swss_types.specs.Tagging.{tagging_of, tagging_text};
+ghost use Rattle.swss_types.specs.VrfNames.{vrf_name_of, vrf_name_text, IsProperVrfName};
 ghost use Rattle.swss_types.specs.declared.address.Family.{Family};
 ghost use Rattle.swss_types.specs.declared.tagging.Tagging.{Tagging};
 
@@ -27,6 +28,13 @@ pub fn interface_names_read_back()
     ensures back { ReadsBack IsProperIfName if_name_text if_name_of }
     ensures once { IsWrittenOnce IsProperIfName if_name_text }
     ensures proper { ReadsProper IsProperIfName if_name_of }
+{}
+
+/// A written name of a virtual router reads as the name.
+pub fn vrf_names_read_back()
+    ensures back { ReadsBack IsProperVrfName vrf_name_text vrf_name_of }
+    ensures once { IsWrittenOnce IsProperVrfName vrf_name_text }
+    ensures proper { ReadsProper IsProperVrfName vrf_name_of }
 {}
 
 /// Written lanes read as the lanes.

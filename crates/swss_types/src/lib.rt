@@ -27,7 +27,7 @@ pub use interface::{IfName, MOST_PORT, MOST_VLAN};
 pub use lanes::{LANE_BOUND, Lanes};
 pub use laws::{
     addresses_read_back, interface_addresses_read_back, interface_names_read_back, lanes_read_back,
-    macs_read_back, numbers_read_back, prefixes_read_back, taggings_read_back,
+    macs_read_back, numbers_read_back, prefixes_read_back, taggings_read_back, vrf_names_read_back,
 };
 pub use number::{read_number, write_number};
 pub use out_of_memory::OutOfMemory;
@@ -38,4 +38,4 @@ pub use prefix::{has_host_bits, read_interface_address, write_interface_address}
 pub use rising::insert_rising;
 pub use tagging::Tagging;
 pub use text::Text;
-pub use vrf::{Packet, Vrf};
+pub use vrf::{Packet, Vrf, VrfName};

@@ -1,11 +1,73 @@
-// Virtual routers, and the packets in them.
-use crate::Ip;
+// Virtual routers, their names, and the packets in them.
+ghost use Rattle.std.specs.Prelude.{◌≡◌, ◌++◌, OnOk, OnErr};
+ghost use Rattle.swss_types.specs.VrfNames.{are_label_bytes, label_of, vrf_name_of, vrf_name_text, vrf_name_with};
 
-/// A virtual router. There is the default one alone so far, which is always there.
-#[derive(Clone, Copy, Debug, PartialEq, Eq)]
+use crate::{Ip, OutOfMemory, cut_at};
+
+/// The most bytes behind `Vrf` in a name.
+const LABEL: usize = 12;
+
+/// The name of a virtual router in SONiC's VRF_TABLE: `Vrf` and at most 12 ASCII letters, digits, `_` and `-` behind it. It
+/// is proper where its bytes are those behind `Vrf`, filled up with zeros, so names are ordered by their bytes.
+#[derive(Clone, Copy, Debug, PartialEq, Eq, PartialOrd, Ord)]
+pub struct VrfName(pub [u8; LABEL]);
+
+impl VrfName {
+    /// The name that the text is: `Vrf` and at most 12 ASCII letters, digits, `_` and `-` behind it. None where it is none.
+    pub fn read(text: &[u8]) -> Option<VrfName>
+        ensures { result ≡ vrf_name_of text.now }
+    {
+        VrfName::with_label(text.strip_prefix(b"Vrf")?)
+    }
+
+    /// Appends the written name.
+    pub fn write(&self, out: &mut Vec<u8>) -> Result<(), OutOfMemory>
+        ensures ok { OnOk result (out.new.items ≡ out.old.items ++ vrf_name_text self.now) }
+        ensures err { OnErr result (out.new.items ≡ out.old.items) }
+    {
+        let before = out.len();
+        out.extend_from_slice(b"Vrf")?;
+        if out.extend_from_slice(self.label()).is_err() {
+            out.truncate(before);
+            return Err(OutOfMemory);
+        }
+        Ok(())
+    }
+
+    /// The name with these bytes behind `Vrf`, or None where no name has them.
+    fn with_label(label: &[u8]) -> Option<VrfName>
+        ensures { result ≡ vrf_name_with label.now }
+    {
+        if label.len() > LABEL || !are_label_bytes(label) {
+            return None;
+        }
+        let mut bytes = [0; LABEL];
+        bytes[..label.len()].copy_from_slice(label);
+        Some(VrfName(bytes))
+    }
+
+    /// Its bytes behind `Vrf`.
+    fn label(&self) -> &[u8]
+        ensures { result.now ≡ label_of self.now }
+    {
+        cut_at(&self.0, 0).0
+    }
+}
+
+/// Whether these are letters, digits, `_` and `-`.
+fn are_label_bytes(bytes: &[u8]) -> bool
+    ensures { result ≡ are_label_bytes bytes.now }
+{
+    bytes.iter().all(|byte| byte.is_ascii_alphanumeric() || *byte == b'_' || *byte == b'-')
+}
+
+/// A virtual router.
+#[derive(Clone, Copy, Debug, PartialEq, Eq, PartialOrd, Ord)]
 pub enum Vrf {
     /// The router that is always there.
     Default,
+    /// A router of this name.
+    Named(VrfName),
 }
 
 /// A packet, as far as its way goes.

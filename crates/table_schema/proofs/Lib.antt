@@ -1,4 +1,5 @@
 pub mod Places
+pub mod Puts
 pub mod Keys
 pub mod Plans
 pub mod Writes

@@ -5,5 +5,6 @@ pub mod Free
 mod Orders
 pub mod Paired
 mod Rising
+mod RouteKeys
 pub mod Routeless
 pub mod Shuffled

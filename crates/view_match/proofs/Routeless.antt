@@ -29,12 +29,12 @@ and_right false b h = absurd cc
 
 -- what has a prefix is not found by an identifier
 apart : (r : Rid) (e : Entry Vid) → has_prefix e ≡ true → is_at (entry_cmp (entry.Oid r)) (entry_renamed rid_of e) ≡ false
-apart r (entry.Route prefix) h = refl
+apart r (entry.Route vr prefix) h = refl
 apart r e h = absurd cc
 
 -- what has a target is no member of a group
 no_member : (objects : Objects) (g : Rid) (b : Body Vid) (others : Option (List WHop)) → has_target b ≡ true → with_member objects g (body_renamed rid_of b) others ≡ others
-no_member objects g (body.Route prefix to) others h = refl
+no_member objects g (body.Route vr prefix to) others h = refl
 no_member objects g b others h = absurd cc
 
 abbrev found : Rid → List (Object Vid) → Option (Body Rid)

@@ -19,15 +19,16 @@ natural_key_cmp = key_ord.ghosts.cmp
 abbrev pub natural_key_of : Thing → NaturalKey
 natural_key_of (thing.Port p) = key.Port p.lanes
 natural_key_of (thing.Vlan vlan) = key.Vlan vlan
+natural_key_of (thing.VirtualRouter label) = key.VirtualRouter label
 natural_key_of (thing.BridgePort lane) = key.BridgePort lane
 natural_key_of (thing.VlanMember vlan lane tagging) = key.VlanMember vlan lane
-natural_key_of (thing.Rif on) = key.Rif on
-natural_key_of (thing.Own ip) = key.Own ip
+natural_key_of (thing.Rif on v) = key.Rif on
+natural_key_of (thing.Own v ip) = key.Own v ip
 natural_key_of (thing.Neighbor hop mac) = key.Neighbor hop
 natural_key_of (thing.NextHop hop) = key.NextHop hop
 natural_key_of (thing.Group hops) = key.Group hops
 natural_key_of (thing.GroupMember hops hop) = key.GroupMember hops hop
-natural_key_of (thing.Route prefix goal) = key.Route prefix
+natural_key_of (thing.Route v prefix goal) = key.Route v prefix
 
 -- the natural key of an object, where its references are among these objects
 abbrev pub key_among : Objects → (Entry Rid × Body Rid) → Option NaturalKey

@@ -19,11 +19,11 @@ abbrev pub objects_as : List (Object Vid) → List (Object Rid)
 objects_as objects = map object_as objects
 
 abbrev pub has_target : Body Vid → Bool
-has_target (body.Route prefix to) = true
+has_target (body.Route vr prefix to) = true
 has_target _ = false
 
 abbrev pub has_prefix : Entry Vid → Bool
-has_prefix (entry.Route prefix) = true
+has_prefix (entry.Route vr prefix) = true
 has_prefix _ = false
 
 -- whether an object is a route, and is found as one

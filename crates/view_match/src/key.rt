@@ -1,17 +1,17 @@
 // The natural keys of objects.
-ghost use Rattle.std.specs.Prelude.{◌≡◌, ◌++◌, None, Some, IfOk, OnOk, option_map, if◌then◌else◌};
+ghost use Rattle.std.specs.Prelude.{◌≡◌, ◌++◌, None, IfOk, OnOk, option_map, if◌then◌else◌};
 ghost use Rattle.sai_types.specs.Objects.{Objects};
 ghost use Rattle.chip_names.specs.Naming.{AreNamesOf, entries_of};
 ghost use Rattle.view_match.specs.Keys.{key_among, natural_key_of, keys_of_objects};
 ghost use Rattle.view_match.specs.Keyed.{AreNewNames};
 ghost use Rattle.view_match.specs.Listed.{object_as};
 
-use crate::listed::{object_of, others_listed, to_of};
+use crate::listed::{object_of, others_listed, to_of, vr_of};
 use chip_names::Names;
 use sai_types::{Base, Body, Hop, Hops, Object, Rid, Thing, Vid, WHop};
 use std::alloc::Global;
 use std::mem::drop;
-use swss_types::{Ip, Lanes, OutOfMemory, Prefix};
+use swss_types::{Ip, Lanes, OutOfMemory, Prefix, Vrf, VrfName};
 
 /// By what two objects of a kind are the same object: what can be set on an object has no part in it. Keys are ordered
 /// by their kinds, as the chip's table has them, and then by their parts.
@@ -21,14 +21,16 @@ pub enum NaturalKey {
     Port(Lanes),
     /// A VLAN, by its number.
     Vlan(u16),
+    /// A virtual router, by its label.
+    VirtualRouter(VrfName),
     /// A bridge port, by its port's first lane.
     BridgePort(u16),
     /// A member of a VLAN: the VLAN, and the port's first lane.
     VlanMember(u16, u16),
     /// A router interface, by what it stands on.
     Rif(Base),
-    /// An address of the switch itself.
-    Own(Ip),
+    /// An address of the switch itself, by its virtual router and the address.
+    Own(Vrf, Ip),
     /// A neighbour, by its interface and address.
     Neighbor(Hop),
     /// A next hop, by its interface and address.
@@ -37,8 +39,8 @@ pub enum NaturalKey {
     Group(Hops),
     /// A hop in a group.
     GroupMember(Hops, WHop),
-    /// A route, by its prefix.
-    Route(Prefix),
+    /// A route, by its virtual router and its prefix.
+    Route(Vrf, Prefix),
 }
 
 impl NaturalKey {
@@ -49,15 +51,16 @@ impl NaturalKey {
         match thing {
             Thing::Port(port) => NaturalKey::Port(port.lanes),
             Thing::Vlan(vlan) => NaturalKey::Vlan(vlan),
+            Thing::VirtualRouter(label) => NaturalKey::VirtualRouter(label),
             Thing::BridgePort(lane) => NaturalKey::BridgePort(lane),
             Thing::VlanMember(vlan, lane, _) => NaturalKey::VlanMember(vlan, lane),
-            Thing::Rif(on) => NaturalKey::Rif(on),
-            Thing::Own(ip) => NaturalKey::Own(ip),
+            Thing::Rif(on, _) => NaturalKey::Rif(on),
+            Thing::Own(vrf, ip) => NaturalKey::Own(vrf, ip),
             Thing::Neighbor(hop, _) => NaturalKey::Neighbor(hop),
             Thing::NextHop(hop) => NaturalKey::NextHop(hop),
             Thing::Group(hops) => NaturalKey::Group(hops),
             Thing::GroupMember(hops, hop) => NaturalKey::GroupMember(hops, hop),
-            Thing::Route(prefix, _goal) => NaturalKey::Route(prefix),
+            Thing::Route(vrf, prefix, _goal) => NaturalKey::Route(vrf, prefix),
         }
     }
 }
@@ -126,8 +129,9 @@ pub(crate) fn new_key_of(
 ) -> Result<Option<NaturalKey>, OutOfMemory>
     ensures { IfOk result (λ key. (objects : Objects) → AreNamesOf objects names.now → key ≡ key_among objects ((object_as object.now).entry, (object_as object.now).body)) }
 {
-    if let Body::Route { prefix, to } = &object.body {
-        return Ok(route_key(*prefix, names.leads(&to_of(*to))));
+    if let Body::Route { vr, prefix, to } = &object.body {
+        let router = names.router(vr_of(*vr));
+        return Ok(route_key(router, *prefix, names.leads(&to_of(*to))));
     }
     let listed = object_of(object)?;
     let key = key_of(names, &listed)?;
@@ -138,19 +142,19 @@ pub(crate) fn new_key_of(
 fn key_of(names: &Names, object: &Object<Rid>) -> Result<Option<NaturalKey>, OutOfMemory>
     ensures { IfOk result (λ key. (objects : Objects) → AreNamesOf objects names.now → key ≡ key_among objects (object.now.entry, object.now.body)) }
 {
-    if let Body::Route { prefix, to } = &object.body {
-        return Ok(route_key(*prefix, names.leads(to)));
+    if let Body::Route { vr, prefix, to } = &object.body {
+        return Ok(route_key(names.router(*vr), *prefix, names.leads(to)));
     }
     let thing = names.thing(object)?;
     Ok(key_if(thing))
 }
 
-/// The natural key of a route, where it leads somewhere.
-fn route_key(prefix: Prefix, leads: bool) -> Option<NaturalKey>
-    ensures { result ≡ (if leads then Some (NaturalKey.Route prefix) else None) }
+/// The natural key of a route, where its virtual router is there and it leads somewhere.
+fn route_key(router: Option<Vrf>, prefix: Prefix, leads: bool) -> Option<NaturalKey>
+    ensures { result ≡ (if leads then option_map (λ v. NaturalKey.Route v prefix) router else None) }
 {
     if leads {
-        Some(NaturalKey::Route(prefix))
+        Some(NaturalKey::Route(router?, prefix))
     } else {
         None
     }

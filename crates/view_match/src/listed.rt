@@ -1,9 +1,9 @@
 // The objects of a new view, seen as those of a chip.
-ghost use Rattle.std.specs.Prelude.{◌≡◌, IfOk};
+ghost use Rattle.std.specs.Prelude.{◌≡◌, IfOk, option_map};
 ghost use Rattle.chip_layout.specs.Renamed.{to_renamed};
 ghost use Rattle.view_match.specs.Listed.{is_route, object_as, objects_as, rid_of, without_routes};
 
-use chip_layout::{NewIds, body_with_ids, entry_with_ids, to_with_ids};
+use chip_layout::{NewIds, body_with_ids, entry_with_ids, to_with_ids, vr_with_ids};
 use sai_types::{Body, Entry, Object, Rid, To, Vid};
 use std::alloc::Global;
 use swss_types::OutOfMemory;
@@ -52,7 +52,7 @@ fn is_route(object: &Object<Vid>) -> bool
     ensures { result ≡ is_route object.now }
 {
     match (&object.body, &object.entry) {
-        (Body::Route { .. }, Entry::Route(_)) => true,
+        (Body::Route { .. }, Entry::Route(..)) => true,
         _ => false,
     }
 }
@@ -65,6 +65,13 @@ pub(crate) fn object_of(object: &Object<Vid>) -> Result<Object<Rid>, OutOfMemory
         entry: entry_with_ids(&Numbers, object.entry),
         body: body_with_ids(&Numbers, &object.body)?,
     })
+}
+
+/// The virtual router of an object in a view as one on a chip.
+pub(crate) fn vr_of(vr: Option<Vid>) -> Option<Rid>
+    ensures { result ≡ option_map rid_of vr }
+{
+    vr_with_ids(&Numbers, vr)
 }
 
 /// A target in a view as one on a chip.

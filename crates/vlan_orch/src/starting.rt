@@ -18,13 +18,13 @@ use table_schema::{Key, PortPlan, Row};
 const NONE: KindCounts = [0; KINDS];
 
 /// A place for a VLAN.
-const VLAN: KindCounts = [0, 1, 0, 0, 0, 0, 0, 0, 0, 0, 0];
+const VLAN: KindCounts = [0, 1, 0, 0, 0, 0, 0, 0, 0, 0, 0, 0];
 
 /// A place for a member.
-const MEMBER: KindCounts = [0, 0, 0, 1, 0, 0, 0, 0, 0, 0, 0];
+const MEMBER: KindCounts = [0, 0, 0, 0, 1, 0, 0, 0, 0, 0, 0, 0];
 
 /// Places for a bridge port and a member.
-const BRIDGE_AND_MEMBER: KindCounts = [0, 0, 1, 1, 0, 0, 0, 0, 0, 0, 0];
+const BRIDGE_AND_MEMBER: KindCounts = [0, 0, 0, 1, 1, 0, 0, 0, 0, 0, 0, 0];
 
 /// Starts the operation of a row, but for the operation itself.
 pub fn begin(

@@ -28,8 +28,7 @@ use Rattle.plan_laws.specs.Applied.{AppliesCold, AppliesHitless, IsColdPlan, IsH
 use Rattle.plan_laws.specs.Calls.{PlansChanges, resolve, viewed}
 use Rattle.plan_laws.specs.Old.{old_layout, old_things, tag_of}
 use Rattle.plan_laws.specs.Plans.{PlanChange}
-use Rattle.plan_laws.specs.Views.{HasRoomForPlan, LanesApart, made_name, made_names}
-use Rattle.plan_laws.proofs.Apart.{PortsApart, lanes-old}
+use Rattle.plan_laws.specs.Views.{HasRoomForPlan, LanesApart, PortsApart, made_name, made_names}
 use Rattle.plan_laws.proofs.Applied.{plan-comes}
 use Rattle.plan_laws.proofs.Cold.{cold-comes}
 use Rattle.plan_laws.proofs.Starting.{old-seen}
@@ -49,6 +48,7 @@ use Rattle.apply_laws.proofs.Order.Ids.{cold-named, hitless-named}
 use Rattle.apply_laws.proofs.Order.Partners.{place-in}
 use Rattle.apply_laws.proofs.Order.Placed.{old-place}
 use Rattle.apply_laws.proofs.Order.Roomy.{made-count, used-count}
+use Rattle.apply_laws.proofs.Order.Routers.{keep-same}
 use Rattle.apply_laws.proofs.Order.Shuffled.{in-shuffled}
 
 steps_append : (names : OldIds) (old : List (Object Rid)) (new : List (Object Vid)) (xs ys : List Timed) → steps_calls names old new (xs ++ ys) ≡ steps_calls names old new xs ++ steps_calls names old new ys
@@ -91,7 +91,7 @@ module _ {capacities : List ℕ} {made : ℕ} {old : List (Object Rid)} {new : L
       ap (λ ls. name.Port (first_lane ls)) (x.lanes.same p q i seen (inr share))
 
   lanes_apart : LanesApart (old_things O N) N
-  lanes_apart = lanes-old x.view.view x.chip ports_apart (λ p q i j share. x.view.lanes.apart (thing.Port p) (thing.Port q) i (inr j) share)
+  lanes_apart = record { beside = ports_apart; within = x.view.lanes.within }
 
   -- ---- a hitless plan
 
@@ -103,7 +103,7 @@ module _ {capacities : List ℕ} {made : ℕ} {old : List (Object Rid)} {new : L
     room kind =
         let olds = used-count kind old in
         let news = made-count old x.chip x.view mode.Hitless (old_name (tag_of O N) O) kind steps (due-in mode.Hitless e) in
-        let fits = x.planned.mode.0 e kind in
+        let fits = (x.planned.mode.0 e).0 kind in
         omega (arith, olds, news, fits)
 
     pub is-hitless : IsHitlessPlan capacities made O N hitless_changes
@@ -115,7 +115,7 @@ module _ {capacities : List ℕ} {made : ℕ} {old : List (Object Rid)} {new : L
         let names = names_from [] old new (pairs_of old new) in
         elim (due-of old x.chip x.view mode.Hitless t (in-shuffled _ steps (due-in mode.Hitless e) t i)) [
           | inl d ↦ made-plan old x.chip x.view mode.Hitless names (old_layout O N) named t d
-          | inr r ↦ elim r [ inl d ↦ set-plan old x.chip x.view mode.Hitless names named t d | inr d ↦ gone-plan old x.chip x.view mode.Hitless names t d ]
+          | inr r ↦ elim r [ inl d ↦ set-plan old x.chip x.view mode.Hitless names (keep-same old x.chip x.view x.lanes (x.planned.mode.0 e).1) named t d | inr d ↦ gone-plan old x.chip x.view mode.Hitless names t d ]
         ]
 
     module _ (ids : Vid → Rid) (numbered : ComeToNextIds ids made plan.calls) where

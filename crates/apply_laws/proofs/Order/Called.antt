@@ -30,9 +30,10 @@ use Rattle.chip_layout.proofs.Shapes.{renamed_with}
 use Rattle.chip_layout.proofs.Renaming.{has_renamed}
 use Rattle.plan_laws.specs.Applied.{IsListedChip}
 use Rattle.plan_laws.specs.Calls.{PlansChange, PlansChanges, PlansSets, old_entry, plan_layout, resolve, viewed}
-use Rattle.plan_laws.specs.Old.{old_layout, tag_of}
+use Rattle.plan_laws.specs.Old.{old_layout, old_things, tag_of}
 use Rattle.plan_laws.specs.Plans.{PlanChange, Make, Remove, Set}
-use Rattle.plan_laws.proofs.Starting.{old-laid}
+use Rattle.plan_laws.specs.Views.{SameRouters}
+use Rattle.plan_laws.proofs.Starting.{old-laid, seen-old}
 use Rattle.view_match.specs.declared.key.NaturalKey.TheVariants as key
 use Rattle.view_match.specs.Keys.{natural_key_of}
 use Rattle.apply_order.specs.Attributes.{differing, set_call}
@@ -45,7 +46,8 @@ use Rattle.apply_laws.specs.Apply.{ComeToNextIds}
 use Rattle.apply_laws.specs.Viewed.{IsViewOf, things_in}
 use Rattle.apply_laws.proofs.Order.Changes.{IsGoneDue, IsMadeDue, IsSetDue, change_of, due-pair, name-is, new_thing, old_name, place_old, thing-is}
 use Rattle.apply_laws.proofs.Order.Partners.{in-place}
-use Rattle.apply_laws.proofs.Order.Placed.{IsPair, new-place, pair-at}
+use Rattle.apply_laws.proofs.Order.Placed.{IsPair, new-in, new-place, pair-at}
+use Rattle.apply_laws.proofs.Order.Routers.{one-router}
 use Rattle.apply_laws.proofs.Order.Sets.{attr_calls, sets-lead}
 
 -- ---- how many identifiers are made
@@ -182,8 +184,8 @@ module _ {made : ℕ} (old : List (Object Rid)) {new : List (Object Vid)} {thing
       lanes_of : (xs ys : List ℕ) → key.Port xs ≡ key.Port ys → xs ≡ ys
       lanes_of xs ys e = cc
 
-  pub set-plan : ((v : Vid) (u : Thing) → viewed things v u → has_number u ≡ true → plan_layout (old_layout O N) (viewed things) (new_id names v) u) → (t : Timed) → IsSetDue old chip view m t → HasPlan (old_layout O N) (viewed things) change calls t
-  set-plan named t d =
+  pub set-plan : SameRouters (old_things O N) N → ((v : Vid) (u : Thing) → viewed things v u → has_number u ≡ true → plan_layout (old_layout O N) (viewed things) (new_id names v) u) → (t : Timed) → IsSetDue old chip view m t → HasPlan (old_layout O N) (viewed things) change calls t
+  set-plan routers named t d =
       let p = pair-at old chip view d.i d.j (due-pair old chip view m (d.i, d.j) d.pair) in
       let o = place_old old chip view m d.i p.entry p.body p.was.at in
       let news : p.now ≡ d.x = same_Some p.now d.x (sym p.there ∙ d.there) in
@@ -192,7 +194,7 @@ module _ {made : ℕ} (old : List (Object Rid)) {new : List (Object Vid)} {thing
       let change_is : change t ≡ Set d.x.1 = ap by_step d.step ∙ ap Set (thing-is old chip view m d.j d.x d.there) in
       let w = p.was.of in
       let x = d.of in
-      let sets = sets-lead (old_layout O N) (old-laid chip N).ids (viewed things) names p.was.thing d.x.1 (p.same ∙ ap name_of now_is) (λ q r a b. port_lanes d.i d.j p q r a (now_is ∙ b)) p.entry w.first w.second x.first x.second w.first_at (at-new (old_layout O N) (viewed things) names named (first_name d.x.1) x.first (first-numbered d.x.1) x.first_at) in
+      let sets = sets-lead (old_layout O N) (old-laid chip N).ids (viewed things) names p.was.thing d.x.1 (p.same ∙ ap name_of now_is) (λ q r a b. port_lanes d.i d.j p q r a (now_is ∙ b)) (one-router (old_things O N) N routers p.was.thing d.x.1 (seen-old chip N p.was.id p.was.thing p.was.stands) (new-in old chip view d.j d.x d.there) (p.same ∙ ap name_of now_is)) p.entry w.first w.second x.first x.second w.first_at (at-new (old_layout O N) (viewed things) names named (first_name d.x.1) x.first (first-numbered d.x.1) x.first_at) in
       let calls_are : these (calls t) ≡ attr_calls p.entry (differing names (body_with p.was.thing w.first w.second) (body_with d.x.1 x.first x.second)) = ap these call_is ∙ ap (λ e. attr_calls e (differing names o.0.body d.n.body)) o.2 ∙ ap (λ b. attr_calls p.entry (differing names b d.n.body)) (o.3 ∙ w.body_is) ∙ ap (λ b. attr_calls p.entry (differing names (body_with p.was.thing w.first w.second) b)) x.body_is in
       let sets' = subst (λ cs. PlansSets (plan_layout (old_layout O N) (viewed things)) (old_entry p.entry) 0 cs p.was.thing d.x.1) (sym calls_are) sets in
       record {

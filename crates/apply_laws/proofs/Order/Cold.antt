@@ -32,7 +32,7 @@ use Rattle.apply_laws.specs.Viewed.{IsViewOf, things_in}
 use Rattle.apply_laws.proofs.Order.Changes.{IsGoneDue, IsMadeDue, change_of, due-of, gone-due, made-due, name-is, new_thing, old_name, ranked, thing-is}
 use Rattle.apply_laws.proofs.Order.Placed.{in-new, new-in, new-place, old-one, old-place}
 use Rattle.apply_laws.proofs.Order.Dues.{joined-distinct, new-distinct, new-due, old-distinct, old-due}
-use Rattle.apply_laws.proofs.Order.Ranked.{AreRising, IsColdRank, cold-rising, cold_value, level_most}
+use Rattle.apply_laws.proofs.Order.Ranked.{AreRising, IsColdRank, cold-rising, cold_value, level_most, top_level}
 use Rattle.apply_laws.proofs.Order.Shuffled.{IsTold, distinct-shuffled, in-shuffled, shuffled-in}
 
 -- ---- lists that are cut in two
@@ -141,18 +141,18 @@ module _ {made : ℕ} (old : List (Object Rid)) {new : List (Object Vid)} {thing
   made_value : (t : Timed) → IsMade t → cold_value t.rank ≡ 100 + cold_rank (change t)
   made_value t d = ap cold_value d.rank ∙ ap (λ k. 100 + level k) (kind-body (Has (viewed things)) d.x.1 d.n.body d.of) ∙ ap (λ c. 100 + cold_rank c) (sym (made_is t d))
 
-  gone_value : (t : Timed) → IsGone t → cold_rank (change t) ≡ 1390 + cold_value t.rank
+  gone_value : (t : Timed) → IsGone t → cold_rank (change t) + top_level ≡ 1400 + cold_value t.rank
   gone_value t d =
       let kinds = kind-body (Has (old_layout O N)) d.was.thing d.o.body d.was.of in
-      let rank : cold_value t.rank ≡ 10 - level (name_kind (name_of d.was.thing)) = ap cold_value d.rank ∙ ap (λ k. 10 - level k) kinds in
+      let rank : cold_value t.rank ≡ top_level - level (name_kind (name_of d.was.thing)) = ap cold_value d.rank ∙ ap (λ k. top_level - level k) kinds in
       let value : cold_rank (change t) ≡ 1400 - level (name_kind (name_of d.was.thing)) = ap cold_rank (gone_is t d) in
       let most = level_most (name_kind (name_of d.was.thing)) in
       omega (arith, rank, value, most)
 
-  gone_low : (t : Timed) → IsGone t → cold_value t.rank ≤ 10
+  gone_low : (t : Timed) → IsGone t → cold_value t.rank ≤ top_level
   gone_low t d =
       let kinds = kind-body (Has (old_layout O N)) d.was.thing d.o.body d.was.of in
-      let rank : cold_value t.rank ≡ 10 - level (name_kind (name_of d.was.thing)) = ap cold_value d.rank ∙ ap (λ k. 10 - level k) kinds in
+      let rank : cold_value t.rank ≡ top_level - level (name_kind (name_of d.was.thing)) = ap cold_value d.rank ∙ ap (λ k. top_level - level k) kinds in
       omega (arith, rank)
 
   made_before : (s t : Timed) → IsMade s → IsGone t → cold_value s.rank ≤ cold_value t.rank → ⊥

@@ -95,9 +95,9 @@ module _ {made : ℕ} (old : List (Object Rid)) {new : List (Object Vid)} {thing
       ∙ sym (ap hitless_value d.rank ∙ remove-value (Has (old_layout O N)) d.was.thing d.o.body d.was.of)
 
   good_of : (t : Timed) → IsDueStep old chip view mode.Hitless t → IsHitlessRank t.rank
-  good_of t (inl d) = subst IsHitlessRank (sym d.rank) (make-good (Has (viewed things)) d.x.1 d.n.body d.of (λ p g is. view.view.named.proper p g (subst (λ z. IsIn z N) is (new-in old chip view d.j d.x d.there))))
+  good_of t (inl d) = subst IsHitlessRank (sym d.rank) (make-good (Has (viewed things)) d.x.1 d.n.body d.of (λ v p g is. view.view.named.proper v p g (subst (λ z. IsIn z N) is (new-in old chip view d.j d.x d.there))))
   good_of t (inr (inl d)) = subst IsHitlessRank (sym d.rank) (set-good (Has (viewed things)) d.x.1 d.n.body d.of)
-  good_of t (inr (inr d)) = subst IsHitlessRank (sym d.rank) (remove-good (Has (old_layout O N)) d.was.thing d.o.body d.was.of (λ p g is. (old-named chip N).proper p g (subst (λ z. IsIn z (old_things O N)) is (seen-old chip N d.was.id d.was.thing d.was.stands))))
+  good_of t (inr (inr d)) = subst IsHitlessRank (sym d.rank) (remove-good (Has (old_layout O N)) d.was.thing d.o.body d.was.of (λ v p g is. (old-named chip N).proper v p g (subst (λ z. IsIn z (old_things O N)) is (seen-old chip N d.was.id d.was.thing d.was.stands))))
 
   -- ---- the plan
 

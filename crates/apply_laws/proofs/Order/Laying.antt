@@ -17,7 +17,7 @@ use Rattle.sai_types.specs.declared.thing.Thing.{Thing}
 use Rattle.sai_types.specs.declared.thing.Thing.TheVariants as thing
 use Rattle.sai_types.specs.After.{entry_of}
 use Rattle.sai_types.specs.Alike.{IsIn}
-use Rattle.sai_types.specs.Named.{both, hops_at, named, thing_by, thing_of, things_among, those, whop_at}
+use Rattle.sai_types.specs.Named.{both, hops_at, named, router_at, thing_by, thing_of, things_among, those, whop_at}
 use Rattle.sai_types.specs.Objects.{Objects, body_at}
 use Rattle.sai_types.specs.Refusal.{same_id}
 use Rattle.sai_types.proofs.Exact.{entry-exact}
@@ -76,33 +76,38 @@ abbrev pub vid_of : Entry Vid → Vid
 vid_of (entry.Oid v) = v
 vid_of e = record { 0 = 0 }
 
+router_back : (r : Option Vid) → option_map vid_by (option_map rid_of r) ≡ r
+router_back None = refl
+router_back (Some i) = refl
+
 pub back : (b : Body Vid) → body_renamed vid_by (body_renamed rid_of b) ≡ b
 back (body.Port l s m u) = refl
 back (body.Vlan v) = refl
+back (body.VirtualRouter label) = refl
 back (body.BridgePort i) = refl
 back (body.VlanMember i j g) = refl
-back (body.Rif (on.Port i)) = refl
-back (body.Rif (on.Vlan i)) = refl
-back (body.OwnAddress ip) = refl
+back (body.Rif r (on.Port i)) = ap (λ x. body.Rif x (on.Port i)) (router_back r)
+back (body.Rif r (on.Vlan i)) = ap (λ x. body.Rif x (on.Vlan i)) (router_back r)
+back (body.OwnAddress r ip) = ap (λ x. body.OwnAddress x ip) (router_back r)
 back (body.Neighbor i ip m) = refl
 back (body.NextHop i ip) = refl
 back body.Group = refl
 back (body.GroupMember i j weight) = refl
-back (body.Route p to.Drop) = refl
-back (body.Route p (to.Rif i)) = refl
-back (body.Route p (to.NextHop i)) = refl
-back (body.Route p (to.Group i)) = refl
+back (body.Route r p to.Drop) = ap (λ x. body.Route x p to.Drop) (router_back r)
+back (body.Route r p (to.Rif i)) = ap (λ x. body.Route x p (to.Rif i)) (router_back r)
+back (body.Route r p (to.NextHop i)) = ap (λ x. body.Route x p (to.NextHop i)) (router_back r)
+back (body.Route r p (to.Group i)) = ap (λ x. body.Route x p (to.Group i)) (router_back r)
 
 pub oid_back : (f : Entry Vid) (r : Rid) → entry_renamed rid_of f ≡ entry.Oid r → f ≡ entry.Oid (vid_by r)
 oid_back (entry.Oid v) r e = let same : rid_of v ≡ r = cc in ap entry.Oid (ap vid_by same)
-oid_back (entry.Own ip) r e = absurd cc
+oid_back (entry.Own v ip) r e = absurd cc
 oid_back (entry.Neigh v ip) r e = absurd cc
-oid_back (entry.Route p) r e = absurd cc
+oid_back (entry.Route v p) r e = absurd cc
 
 pub no_oid : (n : ℕ) (t : Thing) (i j : Rid) → has_number t ≡ false → (r : Rid) → entry_of n (body_with t i j) ≡ entry.Oid r → ⊥
-no_oid n (thing.Own ip) i j h r e = cc
+no_oid n (thing.Own v ip) i j h r e = cc
 no_oid n (thing.Neighbor x m) i j h r e = cc
-no_oid n (thing.Route p g) i j h r e = cc
+no_oid n (thing.Route v p g) i j h r e = cc
 no_oid n (thing.Port p) i j h r e = false≢true (sym h)
 no_oid n _ i j h r e = false≢true (sym h)
 
@@ -178,9 +183,9 @@ module _ {made : ℕ} {S : Objects} {new : List (Object Vid)} (m : IsMadeView ma
       let is : e ≡ entry.Oid g = entry-exact e (entry.Oid g) at.2 in
       subst (λ z. thing_of S (z, body.Group) ≡ thing_by (tagged tag) S (z, body.Group)) (sym is) (ap (option_map thing.Group) (real g (ap (body_at S) (sym is) ∙ found)))
   same-thing e (body.GroupMember g n weight) found = ap (λ o. both thing.GroupMember o (whop_at S n weight)) (real g (member-group m.chip R m.same N e g n weight found))
-  same-thing e (body.Route p (to.Group g)) found = ap (λ o. option_map (thing.Route p) (option_map goal.Group o)) (real g (route_group m.chip R m.same N g (m.chip.whole.refer.each e (body.Route p (to.Group g)) found)))
-  same-thing e (body.Route p to.Drop) found = refl
-  same-thing e (body.Route p (to.Rif r)) found = refl
-  same-thing e (body.Route p (to.NextHop r)) found = refl
+  same-thing e (body.Route r p (to.Group g)) found = ap (λ o. both (λ v x. thing.Route v p x) (router_at S r) (option_map goal.Group o)) (real g (route_group m.chip R m.same N r g (m.chip.whole.refer.each e (body.Route r p (to.Group g)) found)))
+  same-thing e (body.Route r p to.Drop) found = refl
+  same-thing e (body.Route r p (to.Rif i)) found = refl
+  same-thing e (body.Route r p (to.NextHop i)) found = refl
   same-thing e (body.Port l s k u) found = refl
   same-thing e _ found = refl

@@ -1,4 +1,4 @@
--- a plan is hitless exactly where of each kind the old objects and the names that the chip lacks number at most the capacity
+-- a plan is hitless exactly where of each kind the old objects and the names that the chip lacks number at most the capacity, and no interface has to move to another virtual router
 use Rattle.std.proofs.Common.{◌≡◌, inl, inr, ℕ, cond, List, map, None, Some, ap, ◌∙◌, arith}
 use Rattle.std.proofs.lemmas.Bool.{eq-eqb}
 use Rattle.std.proofs.lemmas.List.Sorted.{IsPermutation-refl}
@@ -16,25 +16,33 @@ use Rattle.chip_layout.proofs.Counting.{no-longer}
 use Rattle.plan_laws.specs.Applied.{IsListedChip, chip_things}
 use Rattle.plan_laws.specs.Old.{old_things, tag_of}
 use Rattle.plan_laws.specs.Plans.{IsViewPlan, PlanChange, Make}
-use Rattle.plan_laws.specs.Views.{AreLacking, FitsHitless, made_name, made_names}
-use Rattle.plan_laws.proofs.Doubles.{lacking-shown, shown-lacking}
+use Rattle.plan_laws.specs.Views.{AreLacking, FitsHitless, SameRouters, made_name, made_names}
+use Rattle.plan_laws.proofs.Doubles.{lacking-shown, routers-shown, routers-shown-back, shown-lacking}
 use Rattle.plan_laws.proofs.Picked.{picked-in}
 use Rattle.plan_laws.proofs.Rooms.{makes-lacking}
 use Rattle.view_match.specs.Pairs.{pairs_of}
 use Rattle.apply_order.specs.Due.{due_steps}
 use Rattle.apply_order.specs.Room.{FitTogether}
+use Rattle.apply_order.specs.Routers.{KeepRouters}
 use Rattle.apply_order.specs.declared.ranks.Timed.{Timed}
 use Rattle.apply_laws.specs.Viewed.{HaveOneLanes, IsViewOf, things_in}
 use Rattle.apply_laws.proofs.Order.Changes.{change_of, new_thing, old_name}
 use Rattle.apply_laws.proofs.Order.Hitless.{plain-plan}
 use Rattle.apply_laws.proofs.Order.Roomy.{made-count, used-count}
+use Rattle.apply_laws.proofs.Order.Routers.{keep-same, same-keep}
 
-module _ {made : ℕ} (old : List (Object Rid)) {new : List (Object Vid)} {things : List (Vid × Thing)} (chip : IsListedChip made (entries_of old)) (view : IsViewOf things new) (lanes : HaveOneLanes (entries_of old) (things_in things)) (capacities : List ℕ) where
+module _ {made : ℕ} (old : List (Object Rid)) {new : List (Object Vid)} {things : List (Vid × Thing)} (chip : IsListedChip made (entries_of old)) (view : IsViewOf things new) (lanes : HaveOneLanes (entries_of old) (things_in things)) where
   abbrev O : Objects
   O = entries_of old
 
   abbrev N : List Thing
   N = things_in things
+
+  pub told-routers : SameRouters (chip_things O) N → KeepRouters old new (pairs_of old new)
+  told-routers same = same-keep old chip view lanes (routers-shown chip N view.view same)
+
+  pub routers-told : KeepRouters old new (pairs_of old new) → SameRouters (chip_things O) N
+  routers-told keep = routers-shown-back chip N view.view (keep-same old chip view lanes keep)
 
   abbrev due : List Timed
   due = due_steps mode.Hitless old new (pairs_of old new)
@@ -45,8 +53,8 @@ module _ {made : ℕ} (old : List (Object Rid)) {new : List (Object Vid)} {thing
   plan : IsViewPlan (λ c. 0) (old_things O N) N changes
   plan = plain-plan old chip view lanes due (IsPermutation-refl due)
 
-  pub told-fits : FitsHitless capacities O (chip_things O) N → FitTogether capacities old new (pairs_of old new)
-  told-fits fits kind =
+  pub told-fits : (capacities : List ℕ) → FitsHitless capacities O (chip_things O) N → FitTogether capacities old new (pairs_of old new)
+  told-fits capacities fits kind =
       let olds = used-count kind old in
       let news = made-count old chip view mode.Hitless (old_name (tag_of O N) O) kind due (IsPermutation-refl due) in
       let all = fits kind (made_names kind changes) (lacking-shown chip N view.view kind (made_names kind changes) (makes-lacking plan kind)) in
@@ -67,8 +75,8 @@ module _ {made : ℕ} (old : List (Object Rid)) {new : List (Object Vid)} {thing
         ]
       ]
 
-  pub fits-told : FitTogether capacities old new (pairs_of old new) → FitsHitless capacities O (chip_things O) N
-  fits-told fits kind names lack =
+  pub fits-told : (capacities : List ℕ) → FitTogether capacities old new (pairs_of old new) → FitsHitless capacities O (chip_things O) N
+  fits-told capacities fits kind names lack =
       let olds = used-count kind old in
       let news = made-count old chip view mode.Hitless (old_name (tag_of O N) O) kind due (IsPermutation-refl due) in
       let all = fits kind in

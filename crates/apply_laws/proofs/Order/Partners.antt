@@ -73,28 +73,30 @@ at_key objects (o ∷ os) (suc n) k h = at_key objects os n k h
 abbrev key_name : NaturalKey → ThingName
 key_name (key.Port lanes) = name.Port (first_lane lanes)
 key_name (key.Vlan vlan) = name.Vlan vlan
+key_name (key.VirtualRouter label) = name.VirtualRouter label
 key_name (key.BridgePort lane) = name.BridgePort lane
 key_name (key.VlanMember vlan lane) = name.VlanMember vlan lane
 key_name (key.Rif on) = name.Rif on
-key_name (key.Own ip) = name.Own ip
+key_name (key.Own v ip) = name.Own v ip
 key_name (key.Neighbor hop) = name.Neighbor hop
 key_name (key.NextHop hop) = name.NextHop hop
 key_name (key.Group hops) = name.Group hops
 key_name (key.GroupMember hops hop) = name.GroupMember hops hop
-key_name (key.Route prefix) = name.Route prefix
+key_name (key.Route v prefix) = name.Route v prefix
 
 name_by_key : (t : Thing) → key_name (natural_key_of t) ≡ name_of t
 name_by_key (thing.Port p) = refl
 name_by_key (thing.Vlan v) = refl
+name_by_key (thing.VirtualRouter m) = refl
 name_by_key (thing.BridgePort n) = refl
 name_by_key (thing.VlanMember v n g) = refl
-name_by_key (thing.Rif b) = refl
-name_by_key (thing.Own a) = refl
+name_by_key (thing.Rif b v) = refl
+name_by_key (thing.Own v a) = refl
 name_by_key (thing.Neighbor h m) = refl
 name_by_key (thing.NextHop h) = refl
 name_by_key (thing.Group hs) = refl
 name_by_key (thing.GroupMember hs h) = refl
-name_by_key (thing.Route p g) = refl
+name_by_key (thing.Route v p g) = refl
 
 pub key-name : (t u : Thing) → natural_key_of t ≡ natural_key_of u → name_of t ≡ name_of u
 key-name t u e = sym (name_by_key t) ∙ ap key_name e ∙ name_by_key u
@@ -191,17 +193,18 @@ module _ {made : ℕ} {objects : Objects} (chip : IsListedChip made objects) (ne
       member_parts a c x y e = (cc, cc)
   member_of e (body.Port l s m u) tags hop h = absurd cc
   member_of e (body.Vlan v) tags hop h = absurd cc
+  member_of e (body.VirtualRouter m) tags hop h = absurd cc
   member_of e (body.BridgePort p) tags hop h = let m = mapped thing.BridgePort _ (thing.GroupMember tags hop) h in absurd cc
   member_of e (body.VlanMember v p g) tags hop h = let m = both_mapped _ _ _ (thing.GroupMember tags hop) h in absurd cc
-  member_of e (body.Rif on) tags hop h = let m = mapped thing.Rif _ (thing.GroupMember tags hop) h in absurd cc
-  member_of e (body.OwnAddress ip) tags hop h = absurd cc
+  member_of e (body.Rif vr on) tags hop h = let m = both_mapped thing.Rif _ _ (thing.GroupMember tags hop) h in absurd cc
+  member_of e (body.OwnAddress vr ip) tags hop h = let m = mapped (λ v. thing.Own v ip) _ (thing.GroupMember tags hop) h in absurd cc
   member_of e (body.Neighbor r ip mac) tags hop h = let m = mapped (λ x. thing.Neighbor x mac) _ (thing.GroupMember tags hop) h in absurd cc
   member_of e (body.NextHop r ip) tags hop h = let m = mapped thing.NextHop _ (thing.GroupMember tags hop) h in absurd cc
   member_of (entry.Oid g) body.Group tags hop h = absurd cc
-  member_of (entry.Own ip) body.Group tags hop h = absurd cc
+  member_of (entry.Own vr ip) body.Group tags hop h = absurd cc
   member_of (entry.Neigh r ip) body.Group tags hop h = absurd cc
-  member_of (entry.Route p) body.Group tags hop h = absurd cc
-  member_of e (body.Route p t) tags hop h = let m = mapped (thing.Route p) _ (thing.GroupMember tags hop) h in absurd cc
+  member_of (entry.Route vr p) body.Group tags hop h = absurd cc
+  member_of e (body.Route vr p t) tags hop h = let m = both_mapped (λ v g. thing.Route v p g) _ _ (thing.GroupMember tags hop) h in absurd cc
 
   is_lesser : (m n : ℕ) → m < n → nat_lt m n ≡ true
   is_lesser m n h = grind (arith, nat_tests)
@@ -221,9 +224,9 @@ module _ {made : ℕ} {objects : Objects} (chip : IsListedChip made objects) (ne
 
   number_of : (e : Entry Rid) (g n : Rid) (weight : ℕ) → group_number (e, body.GroupMember g n weight) ≡ g.0
   number_of (entry.Oid r) g n weight = refl
-  number_of (entry.Own ip) g n weight = refl
+  number_of (entry.Own vr ip) g n weight = refl
   number_of (entry.Neigh r ip) g n weight = refl
-  number_of (entry.Route p) g n weight = refl
+  number_of (entry.Route vr p) g n weight = refl
 
   member_number : (e : Entry Rid) (b : Body Rid) (g n : Rid) (weight : ℕ) → b ≡ body.GroupMember g n weight → group_number (e, b) ≡ g.0
   member_number e b g n weight is = ap (λ x. group_number (e, x)) is ∙ number_of e g n weight

@@ -96,13 +96,14 @@ by_name (thing.Port q) (thing.Port p) e f = ap key.Port (sym (f p q refl refl))
 by_name (thing.Vlan a) (thing.Vlan b) e f = let same : a ≡ b = cc in ap key.Vlan same
 by_name (thing.BridgePort a) (thing.BridgePort b) e f = let same : a ≡ b = cc in ap key.BridgePort same
 by_name (thing.VlanMember a c x) (thing.VlanMember b d y) e f = let one : a ≡ b = cc in let two : c ≡ d = cc in ap₂ key.VlanMember one two
-by_name (thing.Rif a) (thing.Rif b) e f = let same : a ≡ b = cc in ap key.Rif same
-by_name (thing.Own a) (thing.Own b) e f = let same : a ≡ b = cc in ap key.Own same
+by_name (thing.VirtualRouter a) (thing.VirtualRouter b) e f = let same : a ≡ b = cc in ap key.VirtualRouter same
+by_name (thing.Rif a v) (thing.Rif b w) e f = let same : a ≡ b = cc in ap key.Rif same
+by_name (thing.Own v a) (thing.Own w b) e f = let one : v ≡ w = cc in let two : a ≡ b = cc in ap₂ key.Own one two
 by_name (thing.Neighbor a x) (thing.Neighbor b y) e f = let same : a ≡ b = cc in ap key.Neighbor same
 by_name (thing.NextHop a) (thing.NextHop b) e f = let same : a ≡ b = cc in ap key.NextHop same
 by_name (thing.Group a) (thing.Group b) e f = let same : a ≡ b = cc in ap key.Group same
 by_name (thing.GroupMember a c) (thing.GroupMember b d) e f = let one : a ≡ b = cc in let two : c ≡ d = cc in ap₂ key.GroupMember one two
-by_name (thing.Route a x) (thing.Route b y) e f = let same : a ≡ b = cc in ap key.Route same
+by_name (thing.Route v a x) (thing.Route w b y) e f = let one : v ≡ w = cc in let two : a ≡ b = cc in ap₂ key.Route one two
 by_name _ _ e f = absurd cc
 
 module _ {made : ℕ} (old : List (Object Rid)) {new : List (Object Vid)} {things : List (Vid × Thing)} (chip : IsListedChip made (entries_of old)) (view : IsViewOf things new) where

@@ -162,12 +162,12 @@ module _ (old : List (Object Rid)) (new : List (Object Vid)) where
 
   entries_put : (names : OldIds) (e : Entry Rid) (f : Entry Vid) → with_entries names e f ≡ put_one name_pair names (entry_pair e f)
   entries_put names (entry.Oid r) (entry.Oid v) = refl
-  entries_put names (entry.Oid r) (entry.Own ip) = refl
+  entries_put names (entry.Oid r) (entry.Own w ip) = refl
   entries_put names (entry.Oid r) (entry.Neigh w ip) = refl
-  entries_put names (entry.Oid r) (entry.Route p) = refl
-  entries_put names (entry.Own ip) f = refl
+  entries_put names (entry.Oid r) (entry.Route w p) = refl
+  entries_put names (entry.Own w ip) f = refl
   entries_put names (entry.Neigh w ip) f = refl
-  entries_put names (entry.Route p) f = refl
+  entries_put names (entry.Route w p) f = refl
 
   objects_put : (names : OldIds) (o : Option (Object Rid)) (n : Option (Object Vid)) → with_objects names o n ≡ put_one name_pair names (object_pair o n)
   objects_put names (Some o) (Some n) = entries_put names o.entry n.entry
@@ -199,12 +199,12 @@ module _ (old : List (Object Rid)) (new : List (Object Vid)) where
       let two : v.0 ≡ n = ap (λ (z : ℕ × Rid). z.0) gives in
       let vid : ℕ → Vid = λ m. record { 0 = m } in
       (ap entry.Oid one, ap entry.Oid (ap vid two))
-  entry_parts (entry.Oid s) (entry.Own ip) n r h = absurd cc
+  entry_parts (entry.Oid s) (entry.Own w ip) n r h = absurd cc
   entry_parts (entry.Oid s) (entry.Neigh w ip) n r h = absurd cc
-  entry_parts (entry.Oid s) (entry.Route p) n r h = absurd cc
-  entry_parts (entry.Own ip) f n r h = absurd cc
+  entry_parts (entry.Oid s) (entry.Route w p) n r h = absurd cc
+  entry_parts (entry.Own w ip) f n r h = absurd cc
   entry_parts (entry.Neigh w ip) f n r h = absurd cc
-  entry_parts (entry.Route p) f n r h = absurd cc
+  entry_parts (entry.Route w p) f n r h = absurd cc
 
   named_by : (pairs : List (ℕ × ℕ)) (p : ℕ × ℕ) (o : Option (Object Rid)) (m : Option (Object Vid)) (v : Vid) (r : Rid) → IsIn p pairs → slice_get old p.0 ≡ o → slice_get new p.1 ≡ m → object_pair o m ≡ Some (v.0, r) → IsNamed pairs v r
   named_by pairs p (Some o) (Some m) v r k a b h = let e = entry_parts o.entry m.entry v.0 r h in record { one = o; other = m; i = p.0; j = p.1; among = k; one_at = a; other_at = b; one_is = e.0; other_is = e.1 }

@@ -6,6 +6,7 @@ use Rattle.std.specs.List.{slice_index_or}
 use Rattle.std.specs.Ordering.{is_lt, ordering_then}
 use Rattle.std.proofs.lemmas.Bool.{false≢true}
 use Rattle.std.proofs.lemmas.Map.Keys.{ge_from_not_lt}
+use Rattle.swss_types.specs.AddressOrder.{prefix_cmp}
 use Rattle.sai_types.specs.declared.kind.Kind.{Kind}
 use Rattle.sai_types.specs.declared.kind.Kind.TheVariants as kind
 use Rattle.sai_types.specs.Alike.{IsIn}
@@ -35,9 +36,14 @@ in_phases m n o h = by (compare m n)
     by (inr (inl same)) = inr (same, ap (λ r. is_lt (ordering_then r o)) (nat_cmp_is m n Equal same) ∙ h)
     by (inr (inr more)) = inl more
 
-pub level_most : (k : Kind) → level k ≤ 10
+-- the highest level of a kind
+abbrev pub top_level : ℕ
+top_level = level kind.Route
+
+pub level_most : (k : Kind) → level k ≤ top_level
 level_most kind.Port = omega arith
 level_most kind.Vlan = omega arith
+level_most kind.VirtualRouter = omega arith
 level_most kind.BridgePort = omega arith
 level_most kind.VlanMember = omega arith
 level_most kind.Rif = omega arith
@@ -56,17 +62,17 @@ hitless_value (rank.Clear k) = 0
 hitless_value (rank.Build k) = 0
 hitless_value (rank.Make k) = level k
 hitless_value (rank.Set k) = 400 + level k
-hitless_value (rank.MakeRoute l) = 728 - l.0
-hitless_value rank.SetRoute = 800
-hitless_value (rank.RemoveRoute l) = 1000 + l
+hitless_value (rank.MakeRoute l p) = 728 - l.0
+hitless_value (rank.SetRoute p) = 800
+hitless_value (rank.RemoveRoute l p) = 1000 + l
 hitless_value (rank.Remove k) = 1400 - level k.0
 
 -- a rank of a hitless plan, of proper prefixes
 abbrev pub IsHitlessRank : Rank → Type 0
 IsHitlessRank (rank.Clear k) = ⊥
 IsHitlessRank (rank.Build k) = ⊥
-IsHitlessRank (rank.MakeRoute l) = l.0 ≤ 128
-IsHitlessRank (rank.RemoveRoute l) = l ≤ 128
+IsHitlessRank (rank.MakeRoute l p) = l.0 ≤ 128
+IsHitlessRank (rank.RemoveRoute l p) = l ≤ 128
 IsHitlessRank _ = Unit {0}
 
 record IsWithin (r : Rank) : Type 0 where
@@ -80,9 +86,9 @@ within (rank.Clear k) h = absurd h
 within (rank.Build k) h = absurd h
 within (rank.Make k) h = let most = level_most k in record { first = omega arith; last = omega arith; low = λ x. omega (arith, x); high = λ x. omega (arith, most) }
 within (rank.Set k) h = let most = level_most k in record { first = omega arith; last = omega arith; low = λ x. omega arith; high = λ x. omega (arith, most) }
-within (rank.MakeRoute l) h = record { first = omega arith; last = omega arith; low = λ x. omega (arith, h); high = λ x. omega (arith, h) }
-within rank.SetRoute h = record { first = omega arith; last = omega arith; low = λ x. omega arith; high = λ x. omega arith }
-within (rank.RemoveRoute l) h = record { first = omega arith; last = omega arith; low = λ x. omega (arith, h); high = λ x. omega (arith, h) }
+within (rank.MakeRoute l p) h = record { first = omega arith; last = omega arith; low = λ x. omega (arith, h); high = λ x. omega (arith, h) }
+within (rank.SetRoute p) h = record { first = omega arith; last = omega arith; low = λ x. omega arith; high = λ x. omega arith }
+within (rank.RemoveRoute l p) h = record { first = omega arith; last = omega arith; low = λ x. omega (arith, h); high = λ x. omega (arith, h) }
 within (rank.Remove k) h = let most = level_most k.0 in record { first = omega arith; last = omega arith; low = λ x. omega (arith, most); high = λ x. omega (arith, x) }
 
 by_phase : (r s : Rank) → IsHitlessRank r → IsHitlessRank s → phase s < phase r → hitless_value s ≤ hitless_value r
@@ -98,9 +104,9 @@ by_phase r s x y h =
 in_phase : (r s : Rank) → IsHitlessRank r → IsHitlessRank s → phase r ≡ phase s → is_lt (phase_order r s) ≡ false → hitless_value s ≤ hitless_value r
 in_phase (rank.Make k) (rank.Make l) x y e h = ge_from_not_lt (level k) (level l) h
 in_phase (rank.Set k) (rank.Set l) x y e h = let less = ge_from_not_lt (level k) (level l) h in omega (arith, less)
-in_phase (rank.MakeRoute m) (rank.MakeRoute n) x y e h = let less = ge_from_not_lt n.0 m.0 h in omega (arith, less)
-in_phase rank.SetRoute rank.SetRoute x y e h = omega arith
-in_phase (rank.RemoveRoute m) (rank.RemoveRoute n) x y e h = let less = ge_from_not_lt m n h in omega (arith, less)
+in_phase (rank.MakeRoute m p) (rank.MakeRoute n q) x y e h = let less = ge_from_not_lt n.0 m.0 (then_not (nat_cmp n.0 m.0) (prefix_cmp p q) h) in omega (arith, less)
+in_phase (rank.SetRoute p) (rank.SetRoute q) x y e h = omega arith
+in_phase (rank.RemoveRoute m p) (rank.RemoveRoute n q) x y e h = let less = ge_from_not_lt m n (then_not (nat_cmp m n) (prefix_cmp p q) h) in omega (arith, less)
 in_phase (rank.Remove k) (rank.Remove l) x y e h = let less = ge_from_not_lt (level l.0) (level k.0) h in omega (arith, less)
 in_phase (rank.Clear k) s x y e h = absurd x
 in_phase (rank.Build k) s x y e h = absurd x
@@ -121,7 +127,7 @@ hitless_falls r s x y h = elim (in_phases (phase r) (phase s) (phase_order r s) 
 -- ---- a cold plan: all that is removed before all that is made
 
 abbrev pub cold_value : Rank → ℕ
-cold_value (rank.Clear k) = 10 - level k.0
+cold_value (rank.Clear k) = top_level - level k.0
 cold_value (rank.Build k) = 100 + level k
 cold_value _ = 0
 

@@ -16,7 +16,7 @@ use Rattle.sai_types.specs.Made.{same_entry}
 use Rattle.sai_types.specs.Named.{both, hops_among, hops_at, put_hop, thing_of, whop_at, with_member}
 use Rattle.sai_types.specs.Objects.{Objects, body_at, is_kind_of}
 use Rattle.std.specs.List.{list_all}
-use Rattle.sai_types.specs.References.{stands}
+use Rattle.sai_types.specs.References.{beside_router, stands}
 use Rattle.sai_types.specs.Refusal.{same_id}
 use Rattle.sai_types.proofs.Exact.{entry-exact, id-exact}
 use Rattle.sai_types.proofs.Found.{same-refl, same-symm}
@@ -93,8 +93,9 @@ module _ {made : ℕ} {S : Objects} (chip : IsListedChip made S) (R : Objects) (
 
   -- ---- groups
 
-  pub route_group : (g : Rid) → list_all (stands S) ((kind.Group, entry.Oid g) ∷ []) ≡ true → body_at S (entry.Oid g) ≡ Some body.Group
-  route_group g h = group_only (body_at S (entry.Oid g)) (and_parts _ _ h).0
+  pub route_group : (r : Option Rid) (g : Rid) → list_all (stands S) (beside_router r ((kind.Group, entry.Oid g) ∷ [])) ≡ true → body_at S (entry.Oid g) ≡ Some body.Group
+  route_group None g h = group_only (body_at S (entry.Oid g)) (and_parts _ _ h).0
+  route_group (Some r) g h = group_only (body_at S (entry.Oid g)) (and_parts _ _ (and_parts _ _ h).1).0
 
   pub member-group : (e : Entry Rid) (g n : Rid) (weight : ℕ) → body_at S e ≡ Some (body.GroupMember g n weight) → body_at S (entry.Oid g) ≡ Some body.Group
   member-group e g n weight found = group_only (body_at S (entry.Oid g)) (and_parts _ _ (chip.whole.refer.each e (body.GroupMember g n weight) found)).0

@@ -4,6 +4,7 @@ use Rattle.std.proofs.Common.{◌≡◌, ℕ, ◌≤◌, ◌==◌, ◌++◌, Boo
 use Rattle.std.proofs.lemmas.Bool.{eqb-true, false≢true}
 use Rattle.swss_types.specs.declared.address.Mac.{Mac}
 use Rattle.swss_types.specs.declared.address.Prefix.{Prefix}
+use Rattle.swss_types.specs.declared.vrf.Vrf.{Vrf}
 use Rattle.swss_types.specs.declared.tagging.Tagging.{Tagging}
 use Rattle.swss_types.specs.contracts.tagging.TaggingPartialEq.TheImpl as tagging_eq
 use Rattle.swss_types.specs.contracts.address.MacPartialEq.TheImpl as mac_eq
@@ -14,6 +15,7 @@ use Rattle.sai_types.specs.declared.body.Attr.{Attr}
 use Rattle.sai_types.specs.declared.body.Attr.TheVariants as attr
 use Rattle.sai_types.specs.declared.body.Call.{Call}
 use Rattle.sai_types.specs.declared.body.Entry.{Entry}
+use Rattle.sai_types.specs.declared.hop.Base.{Base}
 use Rattle.sai_types.specs.declared.hop.Hop.{Hop}
 use Rattle.sai_types.specs.declared.plan.PlanId.{PlanId}
 use Rattle.sai_types.specs.declared.plan.PlanId.TheVariants as plan_id
@@ -92,7 +94,7 @@ module _ (start : Layout Rid) (ids : (i : Rid) (t u : Thing) → start i t → s
       let same = ids r a.0 b.0 a.1 b.1 (ap (λ z. is_numbered (name_kind z)) a.2 ∙ x) (ap (λ z. is_numbered (name_kind z)) b.2 ∙ y) in
       sym a.2 ∙ ap name_of same ∙ b.2
 
-  at_old : (k l : ThingName) (r : Rid) (p : PlanId) → is_numbered (name_kind k) ≡ true → is_numbered (name_kind l) ≡ true → Has start k r → Has by l p → is_old r p ≡ true → k ≡ l
+  pub at_old : (k l : ThingName) (r : Rid) (p : PlanId) → is_numbered (name_kind k) ≡ true → is_numbered (name_kind l) ≡ true → Has start k r → Has by l p → is_old r p ≡ true → k ≡ l
   at_old k l r p x y a b h =
       let is = old_id r p h in
       let at : Has by l (plan_id.Old r) = subst (Has by l) is b in
@@ -106,35 +108,37 @@ module _ (start : Layout Rid) (ids : (i : Rid) (t u : Thing) → start i t → s
   target p (goal.Group x) (goal.Group y) i q a b h = let same = at_old (name.Group x) (name.Group y) i q refl refl a b h in let is : x ≡ y = cc in ap goal.Group is
   target p _ _ i q a b h = absurd (false≢true h)
 
-  route_set : (e : Entry Rid) (p : Prefix) (g g' : Goal) (i : Rid) (q : PlanId) (x : _) → x ≡ to_with g' q → IsAt (Has start) (goal_name g) i → IsAt (Has by) (goal_name g') q → (b : Bool) → is_same_target (to_with g i) x ≡ b → PlansSets by (old_entry e) 0 (attr_calls e (where_differs b (attr.To x))) (thing.Route p g) (thing.Route p g')
-  route_set e p g g' i q x is a b true h = ap (thing.Route p) (target p g g' i q a b (ap (is_same_target (to_with g i)) (sym is) ∙ h))
-  route_set e p g g' i q x is a b false h = (attr.To x, thing.Route p g', (g', q, b, is, refl), refl, omega arith, refl)
+  route_set : (e : Entry Rid) (v : Vrf) (p : Prefix) (g g' : Goal) (i : Rid) (q : PlanId) (x : _) → x ≡ to_with g' q → IsAt (Has start) (goal_name g) i → IsAt (Has by) (goal_name g') q → (b : Bool) → is_same_target (to_with g i) x ≡ b → PlansSets by (old_entry e) 0 (attr_calls e (where_differs b (attr.To x))) (thing.Route v p g) (thing.Route v p g')
+  route_set e v p g g' i q x is a b true h = ap (thing.Route v p) (target p g g' i q a b (ap (is_same_target (to_with g i)) (sym is) ∙ h))
+  route_set e v p g g' i q x is a b false h = (attr.To x, thing.Route v p g', (g', q, b, is, refl), refl, omega arith, refl)
 
   -- ---- all kinds
 
   abbrev HaveSets : Thing → Thing → Type 0
   HaveSets w t = (e : Entry Rid) (i j : Rid) (k l : Vid) → IsAt (Has start) (first_name w) i → IsAt (Has by) (first_name t) (new_id names k) → PlansSets by (old_entry e) 0 (attr_calls e (differing names (body_with w i j) (body_with t k l))) w t
 
-  pub sets-lead : (w t : Thing) → name_of w ≡ name_of t → ((p q : PortThing) → w ≡ thing.Port p → t ≡ thing.Port q → p.lanes ≡ q.lanes) → HaveSets w t
-  sets-lead (thing.Port p) (thing.Port q) same lanes e i j k l a b =
+  pub sets-lead : (w t : Thing) → name_of w ≡ name_of t → ((p q : PortThing) → w ≡ thing.Port p → t ≡ thing.Port q → p.lanes ≡ q.lanes) → ((x y : Base) (u v : Vrf) → w ≡ thing.Rif x u → t ≡ thing.Rif y v → u ≡ v) → HaveSets w t
+  sets-lead (thing.Port p) (thing.Port q) same lanes routers e i j k l a b =
       let is = lanes p q refl refl in
       subst (λ ls. PlansSets by (old_entry e) 0 (attr_calls e (differing names (body_with (thing.Port p) i j) (body_with (thing.Port q) k l))) (port ls p.speed p.mtu p.up) (thing.Port q)) (sym is) (speed_set by e q.lanes p.speed q.speed p.mtu q.mtu p.up q.up (p.speed == q.speed) refl)
-  sets-lead (thing.VlanMember v n g) (thing.VlanMember v' n' g') same lanes e i j k l a b =
+  sets-lead (thing.VlanMember v n g) (thing.VlanMember v' n' g') same lanes routers e i j k l a b =
       let one : v ≡ v' = cc in
       let two : n ≡ n' = cc in
       subst (λ x. PlansSets by (old_entry e) 0 (attr_calls e (where_differs (tagging_eq.ghosts.eq g g') (attr.Tagging g'))) (thing.VlanMember v n g) (thing.VlanMember x n' g')) one (subst (λ x. PlansSets by (old_entry e) 0 (attr_calls e (where_differs (tagging_eq.ghosts.eq g g') (attr.Tagging g'))) (thing.VlanMember v n g) (thing.VlanMember v x g')) two (tagging_set by e v n g g' (tagging_eq.ghosts.eq g g') refl))
-  sets-lead (thing.Neighbor h m) (thing.Neighbor h' m') same lanes e i j k l a b =
+  sets-lead (thing.Neighbor h m) (thing.Neighbor h' m') same lanes routers e i j k l a b =
       let is : h ≡ h' = cc in
       subst (λ x. PlansSets by (old_entry e) 0 (attr_calls e (where_differs (mac_eq.ghosts.eq m m') (attr.Mac m'))) (thing.Neighbor h m) (thing.Neighbor x m')) is (mac_set by e h m m' (mac_eq.ghosts.eq m m') refl)
-  sets-lead (thing.Route p g) (thing.Route p' g') same lanes e i j k l a b =
-      let is : p ≡ p' = cc in
+  sets-lead (thing.Route v p g) (thing.Route v' p' g') same lanes routers e i j k l a b =
+      let one : v ≡ v' = cc in
+      let two : p ≡ p' = cc in
       let x = to_renamed (new_id names) (to_with g' k) in
-      subst (λ z. PlansSets by (old_entry e) 0 (attr_calls e (where_differs (is_same_target (to_with g i) x) (attr.To x))) (thing.Route p g) (thing.Route z g')) is (route_set e p g g' i (new_id names k) x (to_resolved (new_id names) g' k) a b (is_same_target (to_with g i) x) refl)
-  sets-lead (thing.Vlan v) (thing.Vlan v') same lanes e i j k l a b = let is : v ≡ v' = cc in ap thing.Vlan is
-  sets-lead (thing.BridgePort n) (thing.BridgePort n') same lanes e i j k l a b = let is : n ≡ n' = cc in ap thing.BridgePort is
-  sets-lead (thing.Rif x) (thing.Rif y) same lanes e i j k l a b = let is : x ≡ y = cc in ap thing.Rif is
-  sets-lead (thing.Own x) (thing.Own y) same lanes e i j k l a b = let is : x ≡ y = cc in ap thing.Own is
-  sets-lead (thing.NextHop x) (thing.NextHop y) same lanes e i j k l a b = let is : x ≡ y = cc in ap thing.NextHop is
-  sets-lead (thing.Group x) (thing.Group y) same lanes e i j k l a b = let is : x ≡ y = cc in ap thing.Group is
-  sets-lead (thing.GroupMember x h) (thing.GroupMember y h') same lanes e i j k l a b = let one : x ≡ y = cc in let two : h ≡ h' = cc in ap₂ thing.GroupMember one two
-  sets-lead _ _ same lanes e i j k l a b = absurd cc
+      subst (λ z. PlansSets by (old_entry e) 0 (attr_calls e (where_differs (is_same_target (to_with g i) x) (attr.To x))) (thing.Route v p g) (thing.Route z p' g')) one (subst (λ z. PlansSets by (old_entry e) 0 (attr_calls e (where_differs (is_same_target (to_with g i) x) (attr.To x))) (thing.Route v p g) (thing.Route v z g')) two (route_set e v p g g' i (new_id names k) x (to_resolved (new_id names) g' k) a b (is_same_target (to_with g i) x) refl))
+  sets-lead (thing.Vlan v) (thing.Vlan v') same lanes routers e i j k l a b = let is : v ≡ v' = cc in ap thing.Vlan is
+  sets-lead (thing.BridgePort n) (thing.BridgePort n') same lanes routers e i j k l a b = let is : n ≡ n' = cc in ap thing.BridgePort is
+  sets-lead (thing.VirtualRouter m) (thing.VirtualRouter n) same lanes routers e i j k l a b = let is : m ≡ n = cc in ap thing.VirtualRouter is
+  sets-lead (thing.Rif x u) (thing.Rif y v) same lanes routers e i j k l a b = let is : x ≡ y = cc in ap₂ thing.Rif is (routers x y u v refl refl)
+  sets-lead (thing.Own u x) (thing.Own v y) same lanes routers e i j k l a b = let one : u ≡ v = cc in let two : x ≡ y = cc in ap₂ thing.Own one two
+  sets-lead (thing.NextHop x) (thing.NextHop y) same lanes routers e i j k l a b = let is : x ≡ y = cc in ap thing.NextHop is
+  sets-lead (thing.Group x) (thing.Group y) same lanes routers e i j k l a b = let is : x ≡ y = cc in ap thing.Group is
+  sets-lead (thing.GroupMember x h) (thing.GroupMember y h') same lanes routers e i j k l a b = let one : x ≡ y = cc in let two : h ≡ h' = cc in ap₂ thing.GroupMember one two
+  sets-lead _ _ same lanes routers e i j k l a b = absurd cc

@@ -10,10 +10,12 @@ use Rattle.sai_types.specs.declared.body.Entry.{Entry}
 use Rattle.sai_types.specs.declared.body.Entry.TheVariants as entry
 use Rattle.sai_types.specs.declared.body.Object.{Object}
 use Rattle.swss_types.specs.declared.address.Ip.{Ip}
+use Rattle.swss_types.specs.declared.vrf.Vrf.{Vrf}
+use Rattle.swss_types.specs.declared.vrf.Vrf.TheVariants as vrf
 use Rattle.sai_types.specs.declared.hop.Base.{Base}
-use Rattle.sai_types.specs.declared.hop.Base.TheVariants as base
 use Rattle.sai_types.specs.declared.hop.Hop.{Hop}
 use Rattle.sai_types.specs.declared.weight.WHop.{WHop}
+use Rattle.sai_types.specs.declared.thing.Goal.{Goal}
 use Rattle.sai_types.specs.declared.thing.Goal.TheVariants as goal
 use Rattle.sai_types.specs.declared.thing.Thing.{Thing}
 use Rattle.sai_types.specs.declared.thing.Thing.TheVariants as thing
@@ -22,7 +24,7 @@ use Rattle.sai_types.specs.Alike.{IsIn}
 use Rattle.sai_types.specs.Hop.{AreRisingHops}
 use Rattle.sai_types.specs.Named.{first_lane, named, thing_by, thing_of, things_among, those}
 use Rattle.sai_types.specs.Names as name
-use Rattle.sai_types.specs.Names.{ThingName, Refers, name_kind, name_of}
+use Rattle.sai_types.specs.Names.{ThingName, Refers, base_name, goal_names, name_kind, name_of, with_router}
 use Rattle.sai_types.specs.Objects.{Objects, body_at}
 use Rattle.sai_types.specs.References.{refers_well}
 use Rattle.sai_types.specs.Refusal.{clash}
@@ -30,7 +32,7 @@ use Rattle.sai_types.proofs.Exact.{entry-exact}
 use Rattle.sai_types.proofs.Listed.{found-in, in-found, object-of_thing}
 use Rattle.sai_types.proofs.Membership.{in-map, map-in}
 use Rattle.chip_names.specs.Naming.{entries_of}
-use Rattle.chip_layout.specs.Bodies.{IsAt, IsBody, body_with, first_name, is_numbered, second_name}
+use Rattle.chip_layout.specs.Bodies.{IsAt, IsBody, body_with, first_name, goal_name, is_numbered, router_name, second_name}
 use Rattle.chip_layout.specs.Counted.{AreDistinct}
 use Rattle.chip_layout.specs.Layout.{Has, Layout, has_number}
 use Rattle.chip_layout.specs.Renamed.{body_renamed, entry_renamed}
@@ -42,7 +44,7 @@ use Rattle.chip_layout.proofs.Distinct.{distinct-by}
 use Rattle.plan_laws.specs.Applied.{IsView, chip_things}
 use Rattle.plan_laws.specs.Calls.{viewed}
 use Rattle.plan_laws.specs.Old.{old_layout, old_things, tag_of}
-use Rattle.plan_laws.proofs.Apart.{PortsApart, lanes-new}
+use Rattle.plan_laws.specs.Views.{PortsApart}
 use Rattle.plan_laws.proofs.Starting.{group-seen, group-there, hops-rise, hops-same, old-laid, old-named, old-seen, old-tagged, seen-old}
 use Rattle.view_match.specs.Keys.{natural_key_of}
 use Rattle.view_match.specs.Listed.{object_as, objects_as, rid_of}
@@ -196,17 +198,26 @@ module _ {made : ℕ} {S : Objects} {new : List (Object Vid)} (m : IsMadeView ma
   from-old t i = let s = old-seen m.chip N t i in stands-in s.0 t s.1
 
   -- each thing's references stand
-  goal_refers : (t : Thing) (p : _) (g : _) → t ≡ thing.Route p g → (i : Rid) → IsAt (Has L) (first_name t) i → (k : ThingName) → Refers t k → (j : Rid) × Has L k j
-  goal_refers t p goal.Drop e i at k r = elim (subst (λ z. Refers z k) e r) [ ]
-  goal_refers t p (goal.Direct on) e i at k r = elim (subst (λ z. Refers z k) e r) [ inl is ↦ (i, subst (λ z. Has L z i) (sym is) (subst (λ z. IsAt (Has L) (first_name z) i) e at)) | inr none ↦ elim none [ ] ]
-  goal_refers t p (goal.Via hop) e i at k r = elim (subst (λ z. Refers z k) e r) [ inl is ↦ (i, subst (λ z. Has L z i) (sym is) (subst (λ z. IsAt (Has L) (first_name z) i) e at)) | inr none ↦ elim none [ ] ]
-  goal_refers t p (goal.Group hs) e i at k r = elim (subst (λ z. Refers z k) e r) [ inl is ↦ (i, subst (λ z. Has L z i) (sym is) (subst (λ z. IsAt (Has L) (first_name z) i) e at)) | inr none ↦ elim none [ ] ]
+  only_refers : (l : ThingName) (i : Rid) → Has L l i → (k : ThingName) → IsIn k (l ∷ []) → (j : Rid) × Has L k j
+  only_refers l i at k (inl is) = (i, subst (λ z. Has L z i) (sym is) at)
+  only_refers l i at k (inr none) = elim none [ ]
+
+  goal_refers : (g : Goal) (i : Rid) → IsAt (Has L) (goal_name g) i → (k : ThingName) → IsIn k (goal_names g) → (j : Rid) × Has L k j
+  goal_refers goal.Drop i at k r = elim r [ ]
+  goal_refers (goal.Direct on) i at k r = only_refers (name.Rif on) i at k r
+  goal_refers (goal.Via hop) i at k r = only_refers (name.NextHop hop) i at k r
+  goal_refers (goal.Group hs) i at k r = only_refers (name.Group hs) i at k r
+
+  router_refers : (v : Vrf) (j : Rid) (ks : List ThingName) → IsAt (Has L) (router_name v) j → ((k : ThingName) → IsIn k ks → (r : Rid) × Has L k r) → (k : ThingName) → IsIn k (with_router v ks) → (r : Rid) × Has L k r
+  router_refers vrf.Default j ks at rest k r = rest k r
+  router_refers (vrf.Named label) j ks at rest k (inl is) = (j, subst (λ z. Has L z j) (sym is) at)
+  router_refers (vrf.Named label) j ks at rest k (inr r) = rest k r
 
   -- the neighbour that a next hop goes through
   neigh_of : (n : ℕ) (t : Thing) (i j r : Rid) (ip : _) → entry_of n (body_with t i j) ≡ entry.Neigh r ip → (h : Hop) × (mac : _) × (t ≡ thing.Neighbor h mac) × (i ≡ r) × (h.ip ≡ ip)
   neigh_of n (thing.Neighbor h mac) i j r ip e = let one : i ≡ r = cc in let two : h.ip ≡ ip = cc in (h, mac, refl, one, two)
-  neigh_of n (thing.Own x) i j r ip e = absurd cc
-  neigh_of n (thing.Route p g) i j r ip e = absurd cc
+  neigh_of n (thing.Own v x) i j r ip e = absurd cc
+  neigh_of n (thing.Route v p g) i j r ip e = absurd cc
   neigh_of n (thing.Port p) i j r ip e = absurd cc
   neigh_of n _ i j r ip e = absurd cc
 
@@ -236,16 +247,15 @@ module _ {made : ℕ} {S : Objects} {new : List (Object Vid)} (m : IsMadeView ma
   refer-by : (t : Thing) (i j : Rid) (b : Body Rid) → b ≡ body_with t i j → IsAt (Has L) (first_name t) i → IsAt (Has L) (second_name t) j → refers_well S b ≡ true → (k : ThingName) → Refers t k → (r : Rid) × Has L k r
   refer-by (thing.Port p) i j b is x y well k r = elim r [ ]
   refer-by (thing.Vlan v) i j b is x y well k r = elim r [ ]
-  refer-by (thing.Own ip) i j b is x y well k r = elim r [ ]
+  refer-by (thing.VirtualRouter m) i j b is x y well k r = elim r [ ]
+  refer-by (thing.Own v ip) i j b is x y well k r = router_refers v j [] y (λ l h. elim h [ ]) k r
   refer-by (thing.Group hs) i j b is x y well k r = elim r [ ]
   refer-by (thing.BridgePort n) i j b is x y well k (inl e) = (i, subst (λ z. Has L z i) (sym e) x)
   refer-by (thing.BridgePort n) i j b is x y well k (inr none) = elim none [ ]
   refer-by (thing.VlanMember v n g) i j b is x y well k (inl e) = (i, subst (λ z. Has L z i) (sym e) x)
   refer-by (thing.VlanMember v n g) i j b is x y well k (inr (inl e)) = (j, subst (λ z. Has L z j) (sym e) y)
   refer-by (thing.VlanMember v n g) i j b is x y well k (inr (inr none)) = elim none [ ]
-  refer-by (thing.Rif (base.Port n)) i j b is x y well k (inl e) = (i, subst (λ z. Has L z i) (sym e) x)
-  refer-by (thing.Rif (base.Vlan v)) i j b is x y well k (inl e) = (i, subst (λ z. Has L z i) (sym e) x)
-  refer-by (thing.Rif on) i j b is x y well k (inr none) = elim none [ ]
+  refer-by (thing.Rif on v) i j b is x y well k r = router_refers v j (base_name on ∷ []) y (only_refers (base_name on) i x) k r
   refer-by (thing.Neighbor h mac) i j b is x y well k (inl e) = (i, subst (λ z. Has L z i) (sym e) x)
   refer-by (thing.Neighbor h mac) i j b is x y well k (inr none) = elim none [ ]
   refer-by (thing.NextHop h) i j b is x y well k (inl e) = (i, subst (λ z. Has L z i) (sym e) x)
@@ -257,7 +267,7 @@ module _ {made : ℕ} {S : Objects} {new : List (Object Vid)} (m : IsMadeView ma
   refer-by (thing.GroupMember hs h) i j b is x y well k (inl e) = (i, subst (λ z. Has L z i) (sym e) x)
   refer-by (thing.GroupMember hs h) i j b is x y well k (inr (inl e)) = (j, subst (λ z. Has L z j) (sym e) y)
   refer-by (thing.GroupMember hs h) i j b is x y well k (inr (inr none)) = elim none [ ]
-  refer-by (thing.Route p g) i j b is x y well k r = goal_refers (thing.Route p g) p g refl i x k r
+  refer-by (thing.Route v p g) i j b is x y well k r = router_refers v j (goal_names g) y (goal_refers g i x) k r
 
   refers : (t : Thing) (k : ThingName) → IsIn t (things_in laid_things) → Refers t k → (u : Thing) × IsIn u (things_in laid_things) × (name_of u ≡ k)
   refers t k i r =
@@ -286,7 +296,7 @@ module _ {made : ℕ} {S : Objects} {new : List (Object Vid)} (m : IsMadeView ma
   is-view = record {
     named = record {
       one = λ t u i j same. (old-named m.chip N).one t u (into-old t i) (into-old u j) same;
-      proper = λ p g i. (old-named m.chip N).proper p g (into-old (thing.Route p g) i);
+      proper = λ v p g i. (old-named m.chip N).proper v p g (into-old (thing.Route v p g) i);
     };
     within = record { refers = refers };
     grouped = record {
@@ -340,7 +350,7 @@ module _ {made : ℕ} {S : Objects} {new : List (Object Vid)} (m : IsMadeView ma
     keys = keys-are;
     once = names-apart;
     ids = one-id;
-    lanes = lanes-new is-view lanes-in;
+    lanes = record { beside = λ p q i j share. elim j [ ]; within = lanes-in };
   }
 
   -- and they are those that the chip would show

@@ -66,18 +66,18 @@ module _ (old : List (Object Rid)) (objects : ViewObjects) (v : Vid) (r : Rid) w
     where
       oids : (a b : Vid) → entry.Oid a ≡ entry.Oid b → a ≡ b
       oids a b e = cc
-  entries_tied os (entry.Oid s) (entry.Own ip) there one (inl tied) = tied
-  entries_tied os (entry.Oid s) (entry.Own ip) there one (inr both) = let wrong = both.1 in absurd cc
+  entries_tied os (entry.Oid s) (entry.Own w ip) there one (inl tied) = tied
+  entries_tied os (entry.Oid s) (entry.Own w ip) there one (inr both) = let wrong = both.1 in absurd cc
   entries_tied os (entry.Oid s) (entry.Neigh w ip) there one (inl tied) = tied
   entries_tied os (entry.Oid s) (entry.Neigh w ip) there one (inr both) = let wrong = both.1 in absurd cc
-  entries_tied os (entry.Oid s) (entry.Route p) there one (inl tied) = tied
-  entries_tied os (entry.Oid s) (entry.Route p) there one (inr both) = let wrong = both.1 in absurd cc
-  entries_tied os (entry.Own ip) f there one (inl tied) = tied
-  entries_tied os (entry.Own ip) f there one (inr both) = let wrong = both.0 in absurd cc
+  entries_tied os (entry.Oid s) (entry.Route w p) there one (inl tied) = tied
+  entries_tied os (entry.Oid s) (entry.Route w p) there one (inr both) = let wrong = both.1 in absurd cc
+  entries_tied os (entry.Own w ip) f there one (inl tied) = tied
+  entries_tied os (entry.Own w ip) f there one (inr both) = let wrong = both.0 in absurd cc
   entries_tied os (entry.Neigh w ip) f there one (inl tied) = tied
   entries_tied os (entry.Neigh w ip) f there one (inr both) = let wrong = both.0 in absurd cc
-  entries_tied os (entry.Route p) f there one (inl tied) = tied
-  entries_tied os (entry.Route p) f there one (inr both) = let wrong = both.0 in absurd cc
+  entries_tied os (entry.Route w p) f there one (inl tied) = tied
+  entries_tied os (entry.Route w p) f there one (inr both) = let wrong = both.0 in absurd cc
 
   -- two objects of a pair with these identifiers
   abbrev AreBoth : Option (Object Rid) → Option (Object Vid) → Rid → Type 0
@@ -130,12 +130,12 @@ module _ (f : Vid → Rid) where
 
   shown-entries : (os : ViewObjects) (e : Entry Rid) (g : Entry Vid) → shown_by f (tied_entries os e g) ≡ shown_by f os
   shown-entries os (entry.Oid r) (entry.Oid v) = shown-tie os v r
-  shown-entries os (entry.Oid r) (entry.Own ip) = refl
+  shown-entries os (entry.Oid r) (entry.Own w ip) = refl
   shown-entries os (entry.Oid r) (entry.Neigh w ip) = refl
-  shown-entries os (entry.Oid r) (entry.Route p) = refl
-  shown-entries os (entry.Own ip) g = refl
+  shown-entries os (entry.Oid r) (entry.Route w p) = refl
+  shown-entries os (entry.Own w ip) g = refl
   shown-entries os (entry.Neigh w ip) g = refl
-  shown-entries os (entry.Route p) g = refl
+  shown-entries os (entry.Route w p) g = refl
 
   shown-objects : (os : ViewObjects) (o : Option (Object Rid)) (n : Option (Object Vid)) → shown_by f (tied_objects os o n) ≡ shown_by f os
   shown-objects os (Some a) (Some b) = shown-entries os a.entry b.entry

@@ -65,9 +65,9 @@ module _ (f : Vid → Rid) where
       by false n rest = rest n
 
   pub entry-by : (v : Vid) (b : Body Vid) → entry_renamed f (entry_at v b) ≡ entry_of (f v).0 (body_renamed f b)
-  entry-by v (body.OwnAddress ip) = refl
+  entry-by v (body.OwnAddress r ip) = refl
   entry-by v (body.Neighbor r ip m) = refl
-  entry-by v (body.Route p t) = refl
+  entry-by v (body.Route r p t) = refl
   entry-by v (body.Port l s m u) = refl
   entry-by v _ = refl
 

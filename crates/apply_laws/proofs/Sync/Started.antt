@@ -33,9 +33,9 @@ use Rattle.apply_laws.proofs.Sync.Ties.{IsThere, objects-there, tied-apart, vid-
 -- ---- the objects of a view are there
 
 pub id_of : (v w : Vid) (b : Body Vid) → entry_at v b ≡ entry.Oid w → v ≡ w
-id_of v w (body.OwnAddress ip) e = absurd cc
+id_of v w (body.OwnAddress r ip) e = absurd cc
 id_of v w (body.Neighbor r ip m) e = absurd cc
-id_of v w (body.Route p t) e = absurd cc
+id_of v w (body.Route r p t) e = absurd cc
 id_of v w (body.Port l s m u) e = cc
 id_of v w _ e = cc
 
@@ -77,12 +77,12 @@ module _ {made : ℕ} (old : List (Object Rid)) (objects : ViewObjects) {things 
 
     entries_free : (os : ViewObjects) (e : Entry Rid) (f : Entry Vid) → ((r : Rid) → e ≡ entry.Oid r → f ≡ entry.Oid v → ⊥) → rid_at os v ≡ None → rid_at (tied_entries os e f) v ≡ None
     entries_free os (entry.Oid r) (entry.Oid w) apart h = tied-apart os v w r (λ same. apart r refl (ap entry.Oid (sym same))) ∙ h
-    entries_free os (entry.Oid r) (entry.Own ip) apart h = h
+    entries_free os (entry.Oid r) (entry.Own w ip) apart h = h
     entries_free os (entry.Oid r) (entry.Neigh w ip) apart h = h
-    entries_free os (entry.Oid r) (entry.Route p) apart h = h
-    entries_free os (entry.Own ip) f apart h = h
+    entries_free os (entry.Oid r) (entry.Route w p) apart h = h
+    entries_free os (entry.Own w ip) f apart h = h
     entries_free os (entry.Neigh w ip) f apart h = h
-    entries_free os (entry.Route p) f apart h = h
+    entries_free os (entry.Route w p) f apart h = h
 
     objects_free : (os : ViewObjects) (o : Option (Object Rid)) (n : Option (Object Vid)) → ((a : Object Rid) (b : Object Vid) (r : Rid) → o ≡ Some a → n ≡ Some b → a.entry ≡ entry.Oid r → b.entry ≡ entry.Oid v → ⊥) → rid_at os v ≡ None → rid_at (tied_objects os o n) v ≡ None
     objects_free os (Some o) (Some n) apart h = entries_free os o.entry n.entry (λ r. apart o n r refl refl) h

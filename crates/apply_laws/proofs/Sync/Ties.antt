@@ -72,12 +72,12 @@ tied-kept os v w r s there tied =
 module _ (v : Vid) where
   pub entries-there : (os : ViewObjects) (e : Entry Rid) (f : Entry Vid) → IsThere os v → IsThere (tied_entries os e f) v
   entries-there os (entry.Oid r) (entry.Oid w) h = there-kept os v w r h
-  entries-there os (entry.Oid r) (entry.Own ip) h = h
+  entries-there os (entry.Oid r) (entry.Own w ip) h = h
   entries-there os (entry.Oid r) (entry.Neigh w ip) h = h
-  entries-there os (entry.Oid r) (entry.Route p) h = h
-  entries-there os (entry.Own ip) f h = h
+  entries-there os (entry.Oid r) (entry.Route w p) h = h
+  entries-there os (entry.Own w ip) f h = h
   entries-there os (entry.Neigh w ip) f h = h
-  entries-there os (entry.Route p) f h = h
+  entries-there os (entry.Route w p) f h = h
 
   pub objects-there : (os : ViewObjects) (o : Option (Object Rid)) (n : Option (Object Vid)) → IsThere os v → IsThere (tied_objects os o n) v
   objects-there os (Some o) (Some n) h = entries-there os o.entry n.entry h

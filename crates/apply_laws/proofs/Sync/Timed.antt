@@ -49,18 +49,18 @@ use Rattle.apply_laws.proofs.Sync.Names.{AreAttrsTied, body-tied, differing-tied
 use Rattle.apply_laws.proofs.Sync.Ties.{IsThere, there-kept, tied-apart, tied-kept, tied-same}
 
 pub has_number_with : {I : Type 0} (t : Thing) (i j : I) → has_id (body_with t i j) ≡ has_number t
-has_number_with (thing.Own ip) i j = refl
+has_number_with (thing.Own v ip) i j = refl
 has_number_with (thing.Neighbor h m) i j = refl
-has_number_with (thing.Route p g) i j = refl
+has_number_with (thing.Route v p g) i j = refl
 has_number_with (thing.Port p) i j = refl
 has_number_with _ i j = refl
 
 -- the identifier that a call makes is that of its object
 pub made-id : (f : Entry Vid) (v : Vid) → made_id f ≡ Some v → f ≡ entry.Oid v
 made-id (entry.Oid w) v e = ap entry.Oid (same_Some w v e)
-made-id (entry.Own ip) v e = absurd cc
+made-id (entry.Own w ip) v e = absurd cc
 made-id (entry.Neigh r ip) v e = absurd cc
-made-id (entry.Route p) v e = absurd cc
+made-id (entry.Route w p) v e = absurd cc
 
 apart_set : (t u : Thing) → Set t ≡ Make u → ⊥
 apart_set t u e = cc
@@ -240,7 +240,7 @@ module _ (olds : List Thing) {made' : ℕ} (old : List (Object Rid)) {new : List
             let x = d.of in
             let standing = set-refers safe d.x.1 (map change front) (map change ts) (next_cut (Set d.x.1) (set_is d)) in
             subst (λ z. AreAttrsTied V (differing names b z)) (sym x.body_is)
-            (differing-tied V names b d.x.1 x.first x.second (λ g n p t_is e. come_at V tied (first_name d.x.1) x.first x.first_at (first-numbered d.x.1) (λ k f. standing k (first-refers d.x.1 k f)) n (ap first_name t_is ∙ e)))
+            (differing-tied V names b d.x.1 x.first x.second (λ g n v p t_is e. come_at V tied (first_name d.x.1) x.first x.first_at (first-numbered d.x.1) (λ k f. standing k (first-refers d.x.1 k f)) n (ap first_name t_is ∙ e)))
 
     -- ---- all steps
 

@@ -17,6 +17,7 @@ use Rattle.sai_types.specs.declared.thing.Thing.TheVariants as thing
 use Rattle.sai_types.specs.After.{after_calls}
 use Rattle.sai_types.specs.Alike.{IsIn}
 use Rattle.std.specs.BTreeMap.{is_at}
+use Rattle.std.specs.List.{slice_get}
 use Rattle.sai_types.specs.Made.{IsWhole, has_first, same_entry}
 use Rattle.sai_types.specs.Refusal.{capacity_of}
 use Rattle.chip_layout.specs.Answered.{HasPrefix}
@@ -28,8 +29,10 @@ use Rattle.plan_laws.specs.Applied.{IsListedChip, chip_things}
 use Rattle.view_match.specs.Pairs.{pairs_of}
 use Rattle.apply_order.specs.Due.{due_steps}
 use Rattle.apply_order.specs.Planned.{IsPlanOf}
+use Rattle.apply_order.specs.Naming.{names_from}
 use Rattle.apply_order.specs.Ranks.{timed_cmp}
 use Rattle.apply_order.specs.Room.{FitTogether, lacking_from}
+use Rattle.apply_order.specs.Routers.{KeepRouters, stays_in_router}
 use Rattle.apply_order.specs.declared.ranks.Timed.{Timed}
 use Rattle.asic_view.specs.View.{ViewObjects, as_chip, rid_at, rid_in, vid_cmp}
 use Rattle.syncd_core.specs.Begun.{objects_listed}
@@ -47,7 +50,7 @@ abbrev vlan : ℕ → Body Rid
 vlan n = body.Vlan n
 
 abbrev roomy : List ℕ
-roomy = 9 ∷ 9 ∷ 9 ∷ 9 ∷ 9 ∷ 9 ∷ 9 ∷ 9 ∷ 9 ∷ 9 ∷ 9 ∷ []
+roomy = 9 ∷ 9 ∷ 9 ∷ 9 ∷ 9 ∷ 9 ∷ 9 ∷ 9 ∷ 9 ∷ 9 ∷ 9 ∷ 9 ∷ []
 
 -- VLAN 10 stands on the chip, and the view has VLAN 20 beside it
 abbrev old : List (Object Rid)
@@ -160,9 +163,17 @@ fits_all kind.Port = omega arith
 fits_all kind.Vlan = omega arith
 fits_all _ = omega arith
 
+-- no interface is paired
+keep_all : KeepRouters old new (pairs_of old new)
+keep_all p o n i at there = ap (λ b. stays_in_router (names_from [] old new (pairs_of old new)) b n.body) (was p.0 o at)
+  where
+    was : (k : ℕ) (o : Object Rid) → slice_get old k ≡ Some o → o.body ≡ vlan 10
+    was zero o e = let same : o ≡ record { entry = entry.Oid (rid 1); body = body.Vlan 10 } = cc in ap (λ (z : Object Rid). z.body) same
+    was (suc k) o e = absurd cc
+
 example_planned : IsPlanOf old new (pairs_of old new) roomy plan
 example_planned = record {
-  mode = (λ e. fits_all, λ f. refl);
+  mode = (λ e. (fits_all, keep_all), λ f. refl);
   steps = swap due 0 1;
   due = record { moves = (0, 1) ∷ []; below = (omega arith, omega arith, tt); is = refl };
   in_order = sorted;

@@ -88,9 +88,9 @@ module _ (view view' : ViewObjects) (made : ℕ) (capacities : List ℕ) (tied :
   staying (call.Create b) answer.Done legal (v, new, is, said) = λ w. ap (λ l. rid_at l w) is ∙ rid-untied view v new (untied b) refl w
   staying (call.Set e x) answer.Done legal f = λ w. ap (λ l. rid_at l w) f.0 ∙ rid-set e x view w
   staying (call.Remove (entry.Oid v)) answer.Done legal f = subst (LosesTie view v) (sym f.0) (id-untied view made tied whole capacities (entry.Oid v) legal v refl)
-  staying (call.Remove (entry.Own ip)) answer.Done legal f = λ w. ap (λ l. rid_at l w) f.0 ∙ key-alike view made tied whole capacities (entry.Own ip) legal refl w
+  staying (call.Remove (entry.Own r ip)) answer.Done legal f = λ w. ap (λ l. rid_at l w) f.0 ∙ key-alike view made tied whole capacities (entry.Own r ip) legal refl w
   staying (call.Remove (entry.Neigh v ip)) answer.Done legal f = λ w. ap (λ l. rid_at l w) f.0 ∙ key-alike view made tied whole capacities (entry.Neigh v ip) legal refl w
-  staying (call.Remove (entry.Route prefix)) answer.Done legal f = λ w. ap (λ l. rid_at l w) f.0 ∙ key-alike view made tied whole capacities (entry.Route prefix) legal refl w
+  staying (call.Remove (entry.Route r prefix)) answer.Done legal f = λ w. ap (λ l. rid_at l w) f.0 ∙ key-alike view made tied whole capacities (entry.Route r prefix) legal refl w
   staying (call.Create b) answer.Failed legal f = λ w. ap (λ l. rid_at l w) f.0
   staying (call.Set e x) answer.Failed legal f = λ w. ap (λ l. rid_at l w) f.0
   staying (call.Remove (entry.Oid v)) answer.Failed legal f = λ w. ap (λ l. rid_at l w) f.0

@@ -50,14 +50,15 @@ changed-last [] v x g h = ap (λ c. cond c (v, g x) (v, x) ∷ []) ((eq_by_cmp_e
 changed-last (y ∷ ys) v x g h = ap₂ (λ c l. cond c (y.0, g y.1) y ∷ l) (below_apart v y.0 h.0) (changed-last ys v x g h.1)
 
 entry_given : (f : Vid → Rid) (v : Vid) (b : Body Vid) (n : ℕ) → (has_id b ≡ true → (f v).0 ≡ n) → entry_renamed f (entry_at v b) ≡ entry_of n (body_renamed f b)
-entry_given f v (body.OwnAddress ip) n h = refl
+entry_given f v (body.OwnAddress r ip) n h = refl
 entry_given f v (body.Neighbor rif ip mac) n h = refl
-entry_given f v (body.Route prefix to) n h = refl
+entry_given f v (body.Route r prefix to) n h = refl
 entry_given f v (body.Port lanes speed mtu up) n h = ap (λ m. entry.Oid (record { 0 = m })) (h refl)
 entry_given f v (body.Vlan vlan) n h = ap (λ m. entry.Oid (record { 0 = m })) (h refl)
+entry_given f v (body.VirtualRouter label) n h = ap (λ m. entry.Oid (record { 0 = m })) (h refl)
 entry_given f v (body.BridgePort i) n h = ap (λ m. entry.Oid (record { 0 = m })) (h refl)
 entry_given f v (body.VlanMember i j tagging) n h = ap (λ m. entry.Oid (record { 0 = m })) (h refl)
-entry_given f v (body.Rif o) n h = ap (λ m. entry.Oid (record { 0 = m })) (h refl)
+entry_given f v (body.Rif r o) n h = ap (λ m. entry.Oid (record { 0 = m })) (h refl)
 entry_given f v (body.NextHop i ip) n h = ap (λ m. entry.Oid (record { 0 = m })) (h refl)
 entry_given f v body.Group n h = ap (λ m. entry.Oid (record { 0 = m })) (h refl)
 entry_given f v (body.GroupMember i j weight) n h = ap (λ m. entry.Oid (record { 0 = m })) (h refl)

@@ -43,16 +43,16 @@ is_oid (entry.Oid v) = true
 is_oid _ = false
 
 id_entry : (v : Vid) (b : Body Vid) → has_id b ≡ is_oid (entry_at v b)
-id_entry v (body.OwnAddress ip) = refl
+id_entry v (body.OwnAddress r ip) = refl
 id_entry v (body.Neighbor rif ip mac) = refl
-id_entry v (body.Route prefix to) = refl
+id_entry v (body.Route r prefix to) = refl
 id_entry v (body.Port lanes speed mtu up) = refl
 id_entry v _ = refl
 
 oid_at : (v w : Vid) (b : Body Vid) → entry.Oid v ≡ entry_at w b → v ≡ w
-oid_at v w (body.OwnAddress ip) h = absurd cc
+oid_at v w (body.OwnAddress r ip) h = absurd cc
 oid_at v w (body.Neighbor rif ip mac) h = absurd cc
-oid_at v w (body.Route prefix to) h = absurd cc
+oid_at v w (body.Route r prefix to) h = absurd cc
 oid_at v w (body.Port lanes speed mtu up) h = cc
 oid_at v w _ h = cc
 

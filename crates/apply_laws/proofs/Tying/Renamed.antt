@@ -1,6 +1,7 @@
 -- the chip's objects are those of the view by number, with each identifier renamed: so what is legal on the one is legal on the other
-use Rattle.std.proofs.Common.{◌≡◌, ℕ, ◌+◌, List, map, Option, None, Some, refl, sym, ap, ap₂, ◌∙◌, arith}
+use Rattle.std.proofs.Common.{◌≡◌, ℕ, ◌+◌, List, map, Option, None, Some, option_map, refl, sym, ap, ap₂, ◌∙◌, arith}
 use Rattle.std.specs.Cmp.{both_ways}
+use Rattle.std.proofs.lemmas.Option.{same_Some}
 use Rattle.sai_types.specs.declared.ids.Rid.{Rid}
 use Rattle.sai_types.specs.declared.ids.Vid.{Vid}
 use Rattle.sai_types.specs.declared.body.Attr.{Attr}
@@ -50,17 +51,22 @@ module _ (h : Vid → Rid) (g : Rid → Rid) where
   to_twice (to.NextHop i) = refl
   to_twice (to.Group i) = refl
 
+  router_twice : (r : Option Vid) → option_map g (option_map h r) ≡ option_map (λ v. g (h v)) r
+  router_twice None = refl
+  router_twice (Some i) = refl
+
   pub body-twice : (b : Body Vid) → body_renamed g (body_renamed h b) ≡ body_renamed (λ v. g (h v)) b
-  body-twice (body.Rif o) = ap body.Rif (on_twice o)
-  body-twice (body.Route prefix x) = ap (body.Route prefix) (to_twice x)
+  body-twice (body.Rif r o) = ap₂ (λ x y. body.Rif x y) (router_twice r) (on_twice o)
+  body-twice (body.OwnAddress r ip) = ap (λ x. body.OwnAddress x ip) (router_twice r)
+  body-twice (body.Route r prefix x) = ap₂ (λ z y. body.Route z prefix y) (router_twice r) (to_twice x)
   body-twice (body.Port lanes speed mtu up) = refl
   body-twice _ = refl
 
   pub entry-twice : (e : Entry Vid) → entry_renamed g (entry_renamed h e) ≡ entry_renamed (λ v. g (h v)) e
   entry-twice (entry.Oid i) = refl
-  entry-twice (entry.Own ip) = refl
+  entry-twice (entry.Own r ip) = ap (λ x. entry.Own x ip) (router_twice r)
   entry-twice (entry.Neigh i ip) = refl
-  entry-twice (entry.Route prefix) = refl
+  entry-twice (entry.Route r prefix) = ap (λ x. entry.Route x prefix) (router_twice r)
 
   attr_twice : (a : Attr Vid) → attr_renamed g (attr_renamed h a) ≡ attr_renamed (λ v. g (h v)) a
   attr_twice (attr.To x) = ap attr.To (to_twice x)
@@ -115,11 +121,17 @@ module _ (view : ViewObjects) (made : ℕ) (tied : AreTied view made (shown_by (
   all_one : (v w : Vid) → all v ≡ all w → v ≡ w
   all_one v w h = ap as_vid (number_one (as_rid v) (as_rid w) h)
 
+  router_one : (v w : Option Vid) → option_map all v ≡ option_map all w → v ≡ w
+  router_one None None h = refl
+  router_one (Some i) (Some j) h = ap Some (all_one i j (same_Some (all i) (all j) h))
+  router_one None (Some j) h = absurd cc
+  router_one (Some i) None h = absurd cc
+
   entry_one : (e d : Entry Vid) → entry_renamed all e ≡ entry_renamed all d → e ≡ d
   entry_one (entry.Oid i) (entry.Oid j) h = ap entry.Oid (all_one i j (oids (all i) (all j) h))
-  entry_one (entry.Own a) (entry.Own b) h = let same : a ≡ b = cc h in ap entry.Own same
+  entry_one (entry.Own v a) (entry.Own w b) h = let routers : option_map all v ≡ option_map all w = cc h in let same : a ≡ b = cc h in ap₂ (λ x y. entry.Own x y) (router_one v w routers) same
   entry_one (entry.Neigh r a) (entry.Neigh s b) h = let parts = neighs (all r) (all s) a b h in ap₂ (λ x y. entry.Neigh x y) (all_one r s parts.0) parts.1
-  entry_one (entry.Route p) (entry.Route q) h = let same : p ≡ q = cc h in ap entry.Route same
+  entry_one (entry.Route v p) (entry.Route w q) h = let routers : option_map all v ≡ option_map all w = cc h in let same : p ≡ q = cc h in ap₂ (λ x y. entry.Route x y) (router_one v w routers) same
   entry_one _ _ h = absurd cc
 
   entry_is : (e : Entry Vid) → InEntry (IsTied view) e → entry_renamed number (entry_renamed as_rid e) ≡ entry_renamed t e

@@ -36,7 +36,7 @@ id_set (body.Port lanes speed mtu up) (attr.Mtu m) = refl
 id_set (body.Port lanes speed mtu up) (attr.Up u) = refl
 id_set (body.VlanMember vlan bridge_port tagging) (attr.Tagging t) = refl
 id_set (body.Neighbor rif ip mac) (attr.Mac m) = refl
-id_set (body.Route prefix to) (attr.To t) = refl
+id_set (body.Route r prefix to) (attr.To t) = refl
 id_set _ _ = refl
 
 module _ (e : Entry Vid) (a : Attr Vid) where

@@ -1,5 +1,5 @@
 -- a view that is tied to a chip stands for the chip's things
-use Rattle.std.proofs.Common.{◌≡◌, inl, inr, ℕ, ◌+◌, ◌≤◌, Bool, true, false, not, ◌&&◌, cond, List, [], ◌∷◌, map, Option, None, Some, refl, sym, ap, ap₂, ◌∙◌, subst, arith}
+use Rattle.std.proofs.Common.{◌≡◌, inl, inr, ℕ, ◌+◌, ◌≤◌, Bool, true, false, not, ◌&&◌, cond, List, [], ◌∷◌, map, Option, None, Some, option_map, refl, sym, ap, ap₂, ◌∙◌, subst, arith}
 use Rattle.std.specs.Bool.{nat_le}
 use Rattle.std.specs.Cmp.{both_ways}
 use Rattle.std.specs.List.{list_any}
@@ -21,7 +21,7 @@ use Rattle.sai_types.specs.Alike.{IsIn}
 use Rattle.sai_types.specs.Made.{IsWhole, same_entry}
 use Rattle.sai_types.specs.Objects.{body_at, kind_of, used}
 use Rattle.sai_types.specs.References.{refers_well}
-use Rattle.sai_types.specs.Refusal.{capacity_of, clash, first_refusal, same_base, same_id, same_ip}
+use Rattle.sai_types.specs.Refusal.{capacity_of, clash, first_refusal, same_base, same_id, same_ip, same_prefix, same_router}
 use Rattle.sai_types.proofs.Exact.{entry-exact, id-exact}
 use Rattle.sai_types.proofs.Found.{same-refl}
 use Rattle.sai_types.proofs.Membership.{all-in, in-map, map-in}
@@ -59,14 +59,21 @@ module _ (f : Rid → Rid) (one : (i j : Rid) → f i ≡ f j → i ≡ j) where
   base_same (on.Port a) (on.Vlan b) = refl
   base_same (on.Vlan a) (on.Port b) = refl
 
+  router_same : (v w : Option Rid) → same_router (option_map f v) (option_map f w) ≡ same_router v w
+  router_same None None = refl
+  router_same None (Some j) = refl
+  router_same (Some i) None = refl
+  router_same (Some i) (Some j) = id_same i j
+
   clash_same : (b d : Body Rid) → clash (body_renamed f b) (body_renamed f d) ≡ clash b d
   clash_same (body.Port lanes speed mtu up) (body.Port others s m u) = refl
   clash_same (body.Vlan v) (body.Vlan w) = refl
-  clash_same (body.OwnAddress a) (body.OwnAddress b) = refl
-  clash_same (body.Route p t) (body.Route q u) = refl
+  clash_same (body.VirtualRouter m) (body.VirtualRouter n) = refl
+  clash_same (body.OwnAddress v a) (body.OwnAddress w b) = ap (λ x. x && same_ip a b) (router_same v w)
+  clash_same (body.Route v p t) (body.Route w q u) = ap (λ x. x && same_prefix p q) (router_same v w)
   clash_same (body.BridgePort p) (body.BridgePort q) = id_same p q
   clash_same (body.VlanMember v p t) (body.VlanMember w q u) = ap₂ (λ x y. x && y) (id_same v w) (id_same p q)
-  clash_same (body.Rif a) (body.Rif b) = base_same a b
+  clash_same (body.Rif v a) (body.Rif w b) = base_same a b
   clash_same (body.Neighbor r ip mac) (body.Neighbor s other mac') = ap (λ x. x && same_ip ip other) (id_same r s)
   clash_same (body.NextHop r ip) (body.NextHop s other) = ap (λ x. x && same_ip ip other) (id_same r s)
   clash_same (body.GroupMember g n weight) (body.GroupMember h m weight') = ap₂ (λ x y. x && y) (id_same g h) (id_same n m)
@@ -133,9 +140,9 @@ numbered_has_id (body.Vlan vlan) = refl
 numbered_has_id _ = refl
 
 pub own_id : (i : Rid) (b : Body Rid) → has_id b ≡ true → entry_of i.0 b ≡ entry.Oid i
-own_id i (body.OwnAddress ip) h = absurd (false≢true h)
+own_id i (body.OwnAddress r ip) h = absurd (false≢true h)
 own_id i (body.Neighbor rif ip mac) h = absurd (false≢true h)
-own_id i (body.Route prefix to) h = absurd (false≢true h)
+own_id i (body.Route r prefix to) h = absurd (false≢true h)
 own_id i _ h = refl
 
 module _ (view : ViewObjects) (made : ℕ) (tied : AreTied view made (shown_by (tie_of view) view)) (whole : IsWhole made (shown_by (tie_of view) view)) where

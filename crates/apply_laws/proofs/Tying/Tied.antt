@@ -1,10 +1,11 @@
 -- what is known of a view that is tied to a whole chip
-use Rattle.std.proofs.Common.{◌≡◌, ℕ, ◌<◌, ◌≤◌, Bool, true, false, Option, None, Some, refl, sym, ap, ◌∙◌, arith}
+use Rattle.std.proofs.Common.{◌≡◌, ℕ, ◌<◌, ◌≤◌, Bool, true, false, Option, None, Some, option_map, refl, sym, ap, ◌∙◌, arith}
 use Rattle.std.specs.BTreeMap.{is_at}
 use Rattle.std.specs.Map.{lookup}
 use Rattle.std.proofs.lemmas.Bool.{false≢true}
-use Rattle.std.proofs.lemmas.Option.{none-some}
+use Rattle.std.proofs.lemmas.Option.{none-some, same_Some}
 use Rattle.swss_types.specs.declared.address.Ip.{Ip}
+use Rattle.swss_types.specs.declared.address.Prefix.{Prefix}
 use Rattle.sai_types.specs.declared.ids.Rid.{Rid}
 use Rattle.sai_types.specs.declared.ids.Vid.{Vid}
 use Rattle.sai_types.specs.declared.body.Body.{Body}
@@ -21,7 +22,7 @@ use Rattle.asic_view.specs.View.{ViewObjects, entry_at, rid_at, rid_in, shown_by
 use Rattle.asic_view.proofs.Keeping.{found-key, in-all, in-key}
 use Rattle.asic_view.proofs.Shown.{shown_body, shown_entry}
 use Rattle.syncd_core.specs.Tied.{rid_or_none, tie_of}
-use Rattle.apply_laws.specs.Named.{InBody, InEntry}
+use Rattle.apply_laws.specs.Named.{InBody, InEntry, InRouter}
 use Rattle.apply_laws.specs.Ties.{AreTied, HasTie, IsTie, IsTied}
 use Rattle.apply_laws.proofs.Tying.Shown.{IsShown, Item, body-shown, entry-id, found-shown, in-entry, more-body, shown-from, shown-there}
 
@@ -96,8 +97,29 @@ module _ (view : ViewObjects) (made : ℕ) (tied : AreTied view made (shown_by (
   neigh_of : (r : Rid) (ip : Ip) (e : Entry Vid) → entry.Neigh r ip ≡ entry_renamed t e → InEntry (IsTied view) e → (w : Vid) × IsTied view w × (r ≡ t w)
   neigh_of r ip (entry.Neigh w other) h known = (w, known, cc)
   neigh_of r ip (entry.Oid w) h known = absurd cc
-  neigh_of r ip (entry.Own other) h known = absurd cc
-  neigh_of r ip (entry.Route prefix) h known = absurd cc
+  neigh_of r ip (entry.Own v other) h known = absurd cc
+  neigh_of r ip (entry.Route v prefix) h known = absurd cc
+
+  own_of : (r : Option Rid) (ip : Ip) (e : Entry Vid) → entry.Own r ip ≡ entry_renamed t e → InEntry (IsTied view) e → (w : Option Vid) × InRouter (IsTied view) w × (r ≡ option_map t w)
+  own_of r ip (entry.Own w other) h known = (w, known, cc)
+  own_of r ip (entry.Oid w) h known = absurd cc
+  own_of r ip (entry.Neigh w other) h known = absurd cc
+  own_of r ip (entry.Route w prefix) h known = absurd cc
+
+  route_of : (r : Option Rid) (p : Prefix) (e : Entry Vid) → entry.Route r p ≡ entry_renamed t e → InEntry (IsTied view) e → (w : Option Vid) × InRouter (IsTied view) w × (r ≡ option_map t w)
+  route_of r p (entry.Route w other) h known = (w, known, cc)
+  route_of r p (entry.Oid w) h known = absurd cc
+  route_of r p (entry.Own w ip) h known = absurd cc
+  route_of r p (entry.Neigh w ip) h known = absurd cc
+
+  -- what comes to the same as what is tied is tied
+  same_tied : (v w : Vid) → IsTied view w → t v ≡ t w → IsTied view v
+  same_tied v w known same = let own = is-own w known.0 known.1 in (known.0, tied-at v known.0 (same ∙ ap rid_or_none known.1) own.3)
+
+  router_tied : (v w : Option Vid) → InRouter (IsTied view) w → option_map t v ≡ option_map t w → InRouter (IsTied view) v
+  router_tied None w known same = tt
+  router_tied (Some v) (Some w) known same = same_tied v w known (same_Some (t v) (t w) same)
+  router_tied (Some v) None known same = absurd cc
 
   module _ (whole : IsWhole made (shown_by (tie_of view) view)) where
     -- each identifier that an object names is tied
@@ -113,6 +135,12 @@ module _ (view : ViewObjects) (made : ℕ) (tied : AreTied view made (shown_by (
     found-tied (entry.Neigh v ip) d found =
         let from = shown-from t view (entry.Neigh (t v) ip) d found in
         let of = neigh_of (t v) ip (entry_at from.0.0 from.0.1.body) from.2 (entry-tied from.0 from.1) in
-        let own = is-own of.0 of.1.0 of.1.1 in (of.1.0, tied-at v of.1.0 (of.2 ∙ ap rid_or_none of.1.1) own.3)
-    found-tied (entry.Own ip) d found = tt
-    found-tied (entry.Route prefix) d found = tt
+        same_tied v of.0 of.1 of.2
+    found-tied (entry.Own v ip) d found =
+        let from = shown-from t view (entry.Own (option_map t v) ip) d found in
+        let of = own_of (option_map t v) ip (entry_at from.0.0 from.0.1.body) from.2 (entry-tied from.0 from.1) in
+        router_tied v of.0 of.1 of.2
+    found-tied (entry.Route v prefix) d found =
+        let from = shown-from t view (entry.Route (option_map t v) prefix) d found in
+        let of = route_of (option_map t v) prefix (entry_at from.0.0 from.0.1.body) from.2 (entry-tied from.0 from.1) in
+        router_tied v of.0 of.1 of.2

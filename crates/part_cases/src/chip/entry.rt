@@ -9,8 +9,9 @@ use sai_types::{Entry, Rid};
 pub fn entry_end(words: &[&str]) -> usize
     ensures { result ≤ length words.now }
 {
-    let end = match words.first() {
-        Some(&"neighbor") => 3,
+    let end = match words {
+        ["neighbor", ..] => 3,
+        ["own" | "route", _, "in", ..] => 4,
         _ => 2,
     };
     words.len().min(end)
@@ -20,9 +21,11 @@ pub fn entry_end(words: &[&str]) -> usize
 pub fn entry(words: &[&str]) -> Result<Entry<Rid>> {
     match words {
         ["id", number] => Ok(Entry::Oid(id(number)?)),
-        ["own", address] => Ok(Entry::Own(ip(address)?)),
+        ["own", address] => Ok(Entry::Own(None, ip(address)?)),
+        ["own", address, "in", router] => Ok(Entry::Own(Some(id(router)?), ip(address)?)),
         ["neighbor", rif, address] => Ok(Entry::Neigh(id(rif)?, ip(address)?)),
-        ["route", covers] => Ok(Entry::Route(prefix(covers)?)),
+        ["route", covers] => Ok(Entry::Route(None, prefix(covers)?)),
+        ["route", covers, "in", router] => Ok(Entry::Route(Some(id(router)?), prefix(covers)?)),
         _ => bail!("an entry"),
     }
 }

@@ -1,5 +1,5 @@
 // Objects, and where routes point.
-use crate::words::{id, ip, lanes, mac, prefix, weight};
+use crate::words::{id, ip, lanes, mac, prefix, vrf_name, weight};
 use anyhow::{Context, Result, bail};
 use sai_types::{Body, Rid, RifOn, To, Weight};
 use std::alloc::Global;
@@ -8,7 +8,8 @@ use swss_types::{Lanes, Tagging};
 /// The object of these words.
 pub fn body(alloc: Global, words: &[&str]) -> Result<Body<Rid>> {
     match words {
-        ["port" | "vlan" | "bridge_port" | "member" | "rif", ..] => below(alloc, words),
+        ["port" | "vlan" | "virtual_router", ..] => below(alloc, words),
+        ["bridge_port" | "member" | "rif", ..] => below(alloc, words),
         _ => above(words),
     }
 }
@@ -21,15 +22,17 @@ fn below(alloc: Global, words: &[&str]) -> Result<Body<Rid>> {
         ["vlan", number] => Ok(Body::Vlan {
             vlan: number.parse::<u16>().context("a number")?,
         }),
+        ["virtual_router", name] => Ok(Body::VirtualRouter {
+            label: vrf_name(name)?,
+        }),
         ["bridge_port", port] => Ok(Body::BridgePort { port: id(port)? }),
         ["member", vlan, bridge_port] => Ok(Body::VlanMember {
             vlan: id(vlan)?,
             bridge_port: id(bridge_port)?,
             tagging: Tagging::Tagged,
         }),
-        ["rif", on, number] => Ok(Body::Rif {
-            on: rif_on(on, id(number)?)?,
-        }),
+        ["rif", on, number] => rif(None, on, number),
+        ["rif", on, number, "in", router] => rif(Some(id(router)?), on, number),
         _ => bail!("an object"),
     }
 }
@@ -44,6 +47,14 @@ fn port(lanes: Lanes, up: bool) -> Body<Rid> {
     }
 }
 
+/// A router interface.
+fn rif(vr: Option<Rid>, on: &str, number: &str) -> Result<Body<Rid>> {
+    Ok(Body::Rif {
+        vr,
+        on: rif_on(on, id(number)?)?,
+    })
+}
+
 /// What a router interface is on.
 fn rif_on(word: &str, number: Rid) -> Result<RifOn<Rid>> {
     match word {
@@ -56,7 +67,8 @@ fn rif_on(word: &str, number: Rid) -> Result<RifOn<Rid>> {
 /// An object of the kinds from own addresses on.
 fn above(words: &[&str]) -> Result<Body<Rid>> {
     match words {
-        ["own", address] => Ok(Body::OwnAddress { ip: ip(address)? }),
+        ["own", address] => own(None, address),
+        ["own", address, "in", router] => own(Some(id(router)?), address),
         ["neighbor", rif, address, to] => Ok(Body::Neighbor {
             rif: id(rif)?,
             ip: ip(address)?,
@@ -71,12 +83,27 @@ fn above(words: &[&str]) -> Result<Body<Rid>> {
         ["group_member", group, next_hop, number] => {
             group_member(group, next_hop, weight(number)?)
         }
-        ["route", covers, to @ ..] => Ok(Body::Route {
-            prefix: prefix(covers)?,
-            to: target(to)?,
-        }),
+        ["route", covers, "in", router, to @ ..] => route(Some(id(router)?), covers, to),
+        ["route", covers, to @ ..] => route(None, covers, to),
         _ => bail!("an object"),
     }
+}
+
+/// An own address.
+fn own(vr: Option<Rid>, address: &str) -> Result<Body<Rid>> {
+    Ok(Body::OwnAddress {
+        vr,
+        ip: ip(address)?,
+    })
+}
+
+/// A route.
+fn route(vr: Option<Rid>, covers: &str, to: &[&str]) -> Result<Body<Rid>> {
+    Ok(Body::Route {
+        vr,
+        prefix: prefix(covers)?,
+        to: target(to)?,
+    })
 }
 
 /// A member of a group.

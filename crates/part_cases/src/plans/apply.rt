@@ -6,7 +6,7 @@ use crate::chips::put_away;
 use crate::draw::ViewDraw;
 use crate::plans::case::{Case, Odd};
 use crate::plans::drawn::draw_view;
-use crate::plans::room::{AMPLE, fits, tight_room};
+use crate::plans::room::{AMPLE, fits, keeps_routers, tight_room};
 use crate::plans::starting::start;
 use crate::plans::trying::{apply_one, make_drawn, make_new};
 use crate::plans::watch::{Watch, add_addresses};
@@ -24,6 +24,8 @@ struct Views {
     old: Vec<Body<Vid>>,
     new: Vec<Body<Vid>>,
     ips: Vec<Ip>,
+    routers: bool,
+    mode: Option<Mode>,
 }
 
 /// Draws both views of a case, makes the old one on a chip, and brings the chip to the new one. It fails where something
@@ -41,8 +43,13 @@ pub fn run_case(alloc: Global, case: &Case) -> Result<()> {
 /// Draws both views of a case.
 fn draw_views(alloc: Global, case: &Case) -> Result<Views> {
     let (first, second) = (ViewDraw::new(case.seed, 1), ViewDraw::new(case.seed, 2));
-    let old = draw_view(alloc, &first, case.old, case.weights, case.odd)?;
-    let new = draw_view(alloc, &second, case.new, case.weights, Odd::NONE)?;
+    let (before, after) = if case.routers {
+        (Some(0), Some(u64::from(case.moved)))
+    } else {
+        (None, None)
+    };
+    let old = draw_view(alloc, &first, case.old, case.weights, case.odd, before)?;
+    let new = draw_view(alloc, &second, case.new, case.weights, Odd::NONE, after)?;
     let caps = if case.tight {
         tight_room(old.as_slice(), new.as_slice())
     } else {
@@ -56,6 +63,8 @@ fn draw_views(alloc: Global, case: &Case) -> Result<Views> {
         old,
         new,
         ips,
+        routers: case.routers,
+        mode: case.mode,
     })
 }
 
@@ -144,11 +153,15 @@ fn apply_by(
     ensures { IfOk result (λ calls. AreTwins chip.new twin.new) }
 {
     let objects = build(alloc, syncd, second, views.new.as_slice()).context("the new view")?;
-    let hitless = fits(alloc, chip, second, &views.caps)?;
-    let mut watch = Watch::new(alloc, chip, second, views.ips.as_slice(), hitless)?;
+    let fits = fits(alloc, chip, second, &views.caps)?;
+    let hitless = keeps_routers(alloc, chip, second)? && fits;
+    let ips = views.ips.as_slice();
+    let mut watch = Watch::new(alloc, chip, second, ips, views.routers, hitless)?;
     let mode = start(alloc, syncd, chip, second, objects.as_slice())?;
     ensure!((mode == Mode::Hitless) == hitless, "{mode:?}");
     let calls = syncd.left();
+    let is_so = calls == 0 || views.mode.is_none() || views.mode == Some(mode);
+    ensure!(is_so, "the plan is {mode:?}");
     apply_most(alloc, &mut watch, most, syncd, chip, twin)?;
     let ends = syncd.left() != 0 || watch.ends_at(alloc, chip)?;
     ensure!(ends, "another view in the end");

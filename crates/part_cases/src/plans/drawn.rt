@@ -4,10 +4,16 @@ use crate::plans::case::Odd;
 use anyhow::{Context, Result};
 use sai_types::{Body, RifOn, To, Vid, Weight};
 use std::alloc::Global;
-use swss_types::{Bits, Family, Ip, Lanes, Mac, Prefix, Tagging};
+use swss_types::{Bits, Family, Ip, Lanes, Mac, Prefix, Tagging, VrfName};
 
 /// How often things of every kind are drawn.
 const ROUNDS: u8 = 12;
+
+/// The name of the first virtual router, where there are such.
+pub const FIRST: VrfName = VrfName([b'a', 0, 0, 0, 0, 0, 0, 0, 0, 0, 0, 0]);
+
+/// The name of the second.
+pub const SECOND: VrfName = VrfName([b'b', 0, 0, 0, 0, 0, 0, 0, 0, 0, 0, 0]);
 
 /// A view as far as it is drawn: objects that name those before them by their numbers, from 1.
 #[derive(Drop)]
@@ -16,30 +22,40 @@ pub struct Drawn {
     bodies: Vec<Body<Vid>>,
     most: usize,
     weights: bool,
+    // by how many the routers of interfaces are moved on
+    moved: u64,
+    routers: Vec<Vid>,
     rifs: Vec<Vid>,
     hops: Vec<(u8, Vid)>,
     groups: Vec<Vid>,
     sets: Vec<u64>,
 }
 
-/// Draws a view of so many objects, each of which can be made after those before it.
+/// Draws a view of so many objects, each of which can be made after those before it. Where there are virtual routers, the
+/// routers of interfaces are moved on by a number.
 pub fn draw_view(
     alloc: Global,
     draw: &ViewDraw,
     most: usize,
     weights: bool,
     odd: Odd,
+    routers: Option<u64>,
 ) -> Result<Vec<Body<Vid>>> {
     let mut view = Drawn {
         alloc,
         bodies: Vec::new(alloc),
         most,
         weights,
+        moved: routers.unwrap_or(0),
+        routers: Vec::new(alloc),
         rifs: Vec::new(alloc),
         hops: Vec::new(alloc),
         groups: Vec::new(alloc),
         sets: Vec::new(alloc),
     };
+    if routers.is_some() {
+        view.put_routers()?;
+    }
     for round in 0..ROUNDS {
         view.draw_round(alloc, draw, round, odd)?;
     }
@@ -54,6 +70,21 @@ impl Drawn {
         }
         self.bodies.push(body)?;
         Ok(Some(Vid(self.bodies.len() as u64)))
+    }
+
+    /// Puts the virtual routers.
+    fn put_routers(&mut self) -> Result<()> {
+        for label in [FIRST, SECOND] {
+            if let Some(router) = self.put(Body::VirtualRouter { label })? {
+                self.routers.push(router)?;
+            }
+        }
+        Ok(())
+    }
+
+    /// The router that a lot falls on: one of those that were put, or the default one.
+    fn router(&self, lot: u64) -> Option<Vid> {
+        self.routers.get((lot % 3) as usize).copied()
     }
 
     /// Draws things of every kind.
@@ -93,13 +124,33 @@ impl Drawn {
             0 => RifOn::Port(port),
             _ => RifOn::Vlan(vlan),
         };
-        self.put(Body::Rif { on })
+        let lot = draw.shared(round, 8, 3).saturating_add(self.moved);
+        let vr = self.router(lot);
+        self.put(Body::Rif { vr, on })
+    }
+
+    /// Draws an own address, in two routers where there are several.
+    fn draw_own(&mut self, draw: &ViewDraw, round: u8) -> Result<()> {
+        let lot = draw.pick(round, 9, 3);
+        self.put_own(round, lot)?;
+        if !self.routers.is_empty() {
+            self.put_own(round, lot.saturating_add(1))?;
+        }
+        Ok(())
+    }
+
+    /// Puts an own address in the router that a lot falls on.
+    fn put_own(&mut self, round: u8, lot: u64) -> Result<()> {
+        let vr = self.router(lot);
+        let ip = host(round, 1);
+        self.put(Body::OwnAddress { vr, ip })?;
+        Ok(())
     }
 
     /// Draws an own address, and neighbours of an interface with their next hops.
     fn draw_hops(&mut self, draw: &ViewDraw, round: u8, rif: Vid) -> Result<()> {
         if draw.has(round, 4) {
-            self.put(Body::OwnAddress { ip: host(round, 1) })?;
+            self.draw_own(draw, round)?;
         }
         for number in [2, 3, 4] {
             let lot = draw.pick(round, number << 4, 3) % 256;
@@ -194,11 +245,30 @@ impl Drawn {
         for number in 0..8 {
             let place = 128 | number << 2;
             if draw.pick(round, place, 3) != 0 && is_first(round, number) {
-                let to = self.target(draw, round, place);
-                let prefix = prefix(round, number);
-                self.put(Body::Route { prefix, to })?;
+                self.draw_route(draw, round, number)?;
             }
         }
+        Ok(())
+    }
+
+    /// Draws a route, in two routers where there are several.
+    fn draw_route(&mut self, draw: &ViewDraw, round: u8, number: u8) -> Result<()> {
+        let place = 128 | number << 2;
+        let lot = draw.pick(round, place | 3, 3);
+        let to = self.target(draw, round, place);
+        self.put_route(round, number, lot, to)?;
+        if !self.routers.is_empty() {
+            let to = self.target(draw, round, 160 | number << 2);
+            self.put_route(round, number, lot.saturating_add(1), to)?;
+        }
+        Ok(())
+    }
+
+    /// Puts a route in the router that a lot falls on.
+    fn put_route(&mut self, round: u8, number: u8, lot: u64, to: To<Vid>) -> Result<()> {
+        let vr = self.router(lot);
+        let prefix = prefix(round, number);
+        self.put(Body::Route { vr, prefix, to })?;
         Ok(())
     }
 

@@ -1,8 +1,9 @@
-// What a hitless plan has room for.
+// What a hitless plan has room for, and what it keeps.
 use anyhow::Result;
-use sai_chip::SimChip;
-use sai_types::{Body, Caps, Chip, KINDS, Kind, Object, Rid, Vid};
+use sai_chip::{SimChip, named};
+use sai_types::{Base, Body, Caps, Chip, KINDS, Kind, Object, Rid, Thing, Vid};
 use std::alloc::Global;
+use swss_types::Vrf;
 use view_match::{NaturalKey, natural_keys};
 
 /// Room for a thousand objects of each kind.
@@ -54,4 +55,30 @@ fn lacking(
         count = count.saturating_add(u64::from(lacks));
     }
     count
+}
+
+/// Whether each interface of the chip that the second chip has too is in the same router there.
+pub fn keeps_routers(alloc: Global, chip: &SimChip, second: &SimChip) -> Result<bool> {
+    let old = named(alloc, chip.objects(alloc)?.as_slice())?;
+    let new = named(alloc, second.objects(alloc)?.as_slice())?;
+    for thing in old.as_slice() {
+        if let Thing::Rif(on, vrf) = thing
+            && !is_kept(new.as_slice(), *on, *vrf)
+        {
+            return Ok(false);
+        }
+    }
+    Ok(true)
+}
+
+/// Whether the interface on this base, where it is among the things, is in this router.
+fn is_kept(things: &[Thing], on: Base, vrf: Vrf) -> bool {
+    for thing in things {
+        if let Thing::Rif(other, router) = thing
+            && *other == on
+        {
+            return *router == vrf;
+        }
+    }
+    true
 }

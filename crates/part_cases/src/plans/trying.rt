@@ -94,9 +94,9 @@ fn entry_of(vid: Vid, body: &Body<Vid>) -> Entry<Vid>
     ensures { result ≡ entry_at vid body.now }
 {
     match body {
-        Body::OwnAddress { ip } => Entry::Own(*ip),
+        Body::OwnAddress { vr, ip } => Entry::Own(*vr, *ip),
         Body::Neighbor { rif, ip, .. } => Entry::Neigh(*rif, *ip),
-        Body::Route { prefix, .. } => Entry::Route(*prefix),
+        Body::Route { vr, prefix, .. } => Entry::Route(*vr, *prefix),
         _ => Entry::Oid(vid),
     }
 }

@@ -1,14 +1,19 @@
 // What may be seen of a chip while it is brought from an old view to a new one.
+use crate::plans::drawn::{FIRST, SECOND};
 use anyhow::{Result, ensure};
 use sai_chip::{Forward, SimChip, named};
 use sai_types::{Body, Entry, Rid, Thing, Vid, WHop};
 use std::alloc::Global;
-use swss_types::{Bits, Ip, Mac};
+use swss_types::{Bits, Ip, Mac, Vrf};
 use view_match::natural_keys;
 
-/// An address with where its packets go by the old view and by the new one.
+/// The routers that addresses are looked at in.
+const ROUTERS: [Vrf; 3] = [Vrf::Default, Vrf::Named(FIRST), Vrf::Named(SECOND)];
+
+/// An address in a router with where its packets go by the old view and by the new one.
 #[derive(Drop)]
 struct Way {
+    vrf: Vrf,
     ip: Ip,
     old: Forward,
     new: Forward,
@@ -29,7 +34,7 @@ pub struct Watch {
 pub fn add_addresses(ips: &mut Vec<Ip>, bodies: &[Body<Vid>]) -> Result<()> {
     for body in bodies {
         match body {
-            Body::OwnAddress { ip } => ips.push(*ip)?,
+            Body::OwnAddress { ip, .. } => ips.push(*ip)?,
             Body::Route { prefix, .. } => {
                 ips.push(prefix.ip)?;
                 ips.push(behind(prefix.ip, 0x85))?;
@@ -50,22 +55,21 @@ fn behind(ip: Ip, more: u128) -> Ip {
 }
 
 impl Watch {
-    /// A watch over these addresses of a chip, and of a second one that holds the new view.
+    /// A watch over these addresses of a chip, in each of the routers or in the default one, and of a second chip that holds
+    /// the new view.
     pub fn new(
         alloc: Global,
         chip: &SimChip,
         second: &SimChip,
         ips: &[Ip],
+        routers: bool,
         hitless: bool,
     ) -> Result<Watch> {
         let mut ways = Vec::new(alloc);
-        for ip in ips {
-            ways.push(Way {
-                ip: *ip,
-                old: chip.forward(alloc, *ip)?,
-                new: second.forward(alloc, *ip)?,
-                moved: false,
-            })?;
+        for vrf in ROUTERS {
+            if routers || vrf == Vrf::Default {
+                add_ways(alloc, &mut ways, chip, second, &vrf, ips)?;
+            }
         }
         Ok(Watch {
             hitless,
@@ -89,7 +93,7 @@ impl Watch {
     /// Looks at the neighbours, own addresses and routes.
     fn look_at_things(&self, alloc: Global, chip: &SimChip) -> Result<()> {
         for thing in named(alloc, chip.objects(alloc)?.as_slice())? {
-            if let Thing::Own(_) | Thing::Neighbor(..) | Thing::Route(..) = thing {
+            if let Thing::Own(..) | Thing::Neighbor(..) | Thing::Route(..) = thing {
                 let known = self.old.contains(&thing) || self.new.contains(&thing);
                 ensure!(known, "{thing:?} is of neither view");
             }
@@ -100,8 +104,13 @@ impl Watch {
     /// Looks at each address.
     fn look_at_ways(&mut self, alloc: Global, chip: &SimChip) -> Result<()> {
         for way in self.ways.iter_mut() {
-            let now = chip.forward(alloc, way.ip)?;
-            ensure!(way.allows(&now), "{:?} goes {now:?}", way.ip);
+            let now = chip.forward(alloc, way.vrf, way.ip)?;
+            ensure!(
+                way.allows(&now),
+                "{:?} in {:?} goes {now:?}",
+                way.ip,
+                way.vrf
+            );
             way.moved = way.moved || agree(&now, &way.new, false);
         }
         Ok(())
@@ -117,6 +126,27 @@ impl Watch {
         }
         Ok(named(alloc, objects.as_slice())? == self.new)
     }
+}
+
+/// Adds where packets to these addresses go in a router, by both chips.
+fn add_ways(
+    alloc: Global,
+    ways: &mut Vec<Way>,
+    chip: &SimChip,
+    second: &SimChip,
+    vrf: &Vrf,
+    ips: &[Ip],
+) -> Result<()> {
+    for ip in ips {
+        ways.push(Way {
+            vrf: *vrf,
+            ip: *ip,
+            old: chip.forward(alloc, *vrf, *ip)?,
+            new: second.forward(alloc, *vrf, *ip)?,
+            moved: false,
+        })?;
+    }
+    Ok(())
 }
 
 /// The groups of a chip that have the hops and weights of one that was made before.

@@ -6,6 +6,7 @@ use Rattle.table_schema.specs.Plan.{IsPlan, Ports, port_named}
 use Rattle.table_schema.specs.declared.key.Key.{Key}
 use Rattle.table_schema.specs.declared.key.Key.TheVariants as key
 use Rattle.swss_types.specs.declared.address.Ip.{Ip}
+use Rattle.swss_types.specs.declared.vrf.Vrf.{Vrf}
 use Rattle.swss_types.proofs.Proper.{mapped}
 use Rattle.sai_types.specs.declared.weight.WHop.{WHop}
 use Rattle.sai_types.specs.declared.ids.Rid.{Rid}
@@ -49,9 +50,9 @@ use Rattle.registry_laws.proofs.Identifier.Staying.{vid_kept}
 
 abbrev pub made_owner : Key → Thing → Option Owner
 made_owner k (thing.BridgePort lane) = Some (owner.Bridge lane)
-made_owner k (thing.Own ip) = Some (owner.Own ip)
+made_owner k (thing.Own v ip) = Some (owner.Own v ip)
 made_owner k (thing.Neighbor hop mac) = None
-made_owner k (thing.Route prefix goal) = None
+made_owner k (thing.Route v prefix goal) = None
 made_owner k (thing.Group hops) = None
 made_owner k (thing.GroupMember hops hop) = None
 made_owner k t = Some (owner.OfRow k)
@@ -63,9 +64,9 @@ built_is k _ = refl
 -- the other names have the identifiers that they had
 pub made_off : (names : Names) (k : Key) (t : Thing) (made : Option Vid) (o : Owner) → (made_owner k t ≡ Some o → ⊥) → ids_of (names_after_made names k t made) (name_for o) ≡ ids_of names (name_for o)
 made_off names k (thing.BridgePort lane) made o other = ids_off names (owner.Bridge lane) (made_live (to_list made)) o (λ e. other (ap Some e))
-made_off names k (thing.Own ip) made o other = ids_off names (owner.Own ip) (made_live []) o (λ e. other (ap Some e))
+made_off names k (thing.Own v ip) made o other = ids_off names (owner.Own v ip) (made_live []) o (λ e. other (ap Some e))
 made_off names k (thing.Neighbor hop mac) made o other = refl
-made_off names k (thing.Route prefix goal) made o other = refl
+made_off names k (thing.Route v prefix goal) made o other = refl
 made_off names k (thing.Group hops) made o other = refl
 made_off names k (thing.GroupMember hops hop) made o other = refl
 made_off names k _ made o other = ids_off names (owner.OfRow k) (made_live (to_list made)) o (λ e. other (ap Some e))
@@ -76,17 +77,17 @@ live_at names p o w ids e h = subst (λ z. ids_of (changed names (name_for z) (m
 
 made_at : (names : Names) (k : Key) (t : Thing) (made : Option Vid) (o : Owner) (w : ℕ) → made_owner k t ≡ Some o → state_of names (name_for o) ≡ state.Building w → has_number t ≡ true → ids_of (names_after_made names k t made) (name_for o) ≡ to_list made
 made_at names k (thing.BridgePort lane) made o w e h numbered = live_at names (owner.Bridge lane) o w (to_list made) e h
-made_at names k (thing.Own ip) made o w e h numbered = absurd (false≢true numbered)
+made_at names k (thing.Own v ip) made o w e h numbered = absurd (false≢true numbered)
 made_at names k (thing.Neighbor hop mac) made o w e h numbered = not_some o e
-made_at names k (thing.Route prefix goal) made o w e h numbered = not_some o e
+made_at names k (thing.Route v prefix goal) made o w e h numbered = not_some o e
 made_at names k (thing.Group hops) made o w e h numbered = not_some o e
 made_at names k (thing.GroupMember hops hop) made o w e h numbered = not_some o e
 made_at names k _ made o w e h numbered = live_at names (owner.OfRow k) o w (to_list made) e h
 
-made_numbered : (k : Key) (t : Thing) (o : Owner) → made_owner k t ≡ Some o → (has_number t ≡ true) ⊎ ((ip : Ip) × (o ≡ owner.Own ip))
-made_numbered k (thing.Own ip) o e = inr (ip, sym (same_Some (owner.Own ip) o e))
+made_numbered : (k : Key) (t : Thing) (o : Owner) → made_owner k t ≡ Some o → (has_number t ≡ true) ⊎ ((v : Vrf) × (ip : Ip) × (o ≡ owner.Own v ip))
+made_numbered k (thing.Own v ip) o e = inr (v, ip, sym (same_Some (owner.Own v ip) o e))
 made_numbered k (thing.Neighbor hop mac) o e = not_some o e
-made_numbered k (thing.Route prefix goal) o e = not_some o e
+made_numbered k (thing.Route v prefix goal) o e = not_some o e
 made_numbered k _ o e = inl refl
 
 module _ (plan : Ports) where
@@ -105,18 +106,19 @@ module _ (plan : Ports) where
   made_some : (k : Key) (t : Thing) (o : Owner) → IsOwnedBy plan (name_of t) o → (o ≡ owner.OfRow k) ⊎ IsShared o → has_number t ≡ true → IsAlone (name_of t) → made_owner k t ≡ Some o
   made_some k (thing.Port p) o of whose numbered alone = of_row k o (port_named plan (first_lane p.lanes)) key.Port whose of
   made_some k (thing.Vlan vlan) o of whose numbered alone = of_row k o (Some vlan) key.Vlan whose of
+  made_some k (thing.VirtualRouter label) o of whose numbered alone = not_some o of
   made_some k (thing.BridgePort lane) o of whose numbered alone = of
   made_some k (thing.VlanMember vlan lane tagging) o of whose numbered alone = of_row k o (port_named plan lane) (key.Member vlan) whose of
-  made_some k (thing.Rif b) o of whose numbered alone = of_row k o (interface_on plan b) key.Intf whose of
+  made_some k (thing.Rif b v) o of whose numbered alone = of_row k o (interface_on plan b) key.Intf whose of
   made_some k (thing.NextHop hop) o of whose numbered alone = of_row k o (interface_on plan hop.on) (λ i. key.Neigh i hop.ip) whose of
   made_some k (thing.Group hops) o of whose numbered alone = absurd (alone hops refl)
   made_some k (thing.GroupMember hops hop) o of whose numbered alone = absurd (alone hops refl)
   made_some k _ o of whose numbered alone = absurd (false≢true numbered)
 
   unnumbered_vid : (names : Names) (n : ThingName) (v : Vid) → is_numbered (name_kind n) ≡ false → HasVid plan names n v → ⊥
-  unnumbered_vid names (thing_name.Own ip) v h x = not_some v x
+  unnumbered_vid names (thing_name.Own w ip) v h x = not_some v x
   unnumbered_vid names (thing_name.Neighbor hop) v h x = not_some v x
-  unnumbered_vid names (thing_name.Route prefix) v h x = not_some v x
+  unnumbered_vid names (thing_name.Route w prefix) v h x = not_some v x
   unnumbered_vid names _ v h x = absurd (false≢true (sym h))
 
 module _ (plan : Ports) (is : IsPlan plan) (m : Machine) (sound : IsConsistent plan m) (objects : Objects) (laid : IsLaidOut (listed m.stands) objects) (names : Names) (rid rid' : Vid → Option Rid) (flown : ℕ → Option Flown) (known : Identified plan names rid flown m.stands) where
@@ -155,8 +157,8 @@ module _ (plan : Ports) (is : IsPlan plan) (m : Machine) (sound : IsConsistent p
         same : (has_number t ≡ true) → its_owner.0 ≡ o
         same number = same_Some its_owner.0 o (sym (made_some plan f.key t its_owner.0 its_owner.1 its_owner.2 number alone) ∙ e)
 
-        by : (has_number t ≡ true) ⊎ ((ip : Ip) × (o ≡ owner.Own ip)) → ⊥
-        by (inr (ip, own)) = no_own plan is (name_of u) o ip own numbered of
+        by : (has_number t ≡ true) ⊎ ((v : Vrf) × (ip : Ip) × (o ≡ owner.Own v ip)) → ⊥
+        by (inr (v, ip, own)) = no_own plan is (name_of u) o v ip own numbered of
         by (inl number) = can.fresh u (j, h) (one_name plan is (name_of u) (name_of t) o numbered number (λ hops e. alone hops (subst (IsOwnedBy plan (name_of t)) (same number ∙ e) its_owner.1)) of (subst (IsOwnedBy plan (name_of t)) (same number) its_owner.1))
 
     new_tied : has_number t ≡ true → HasTied later (name_of t) i
@@ -203,7 +205,7 @@ module _ (plan : Ports) (is : IsPlan plan) (m : Machine) (sound : IsConsistent p
           where
             no_group : (lane : ℕ) (hops : List WHop) → owner.Bridge lane ≡ owner.Group hops → ⊥
             no_group lane hops h = cc
-        by (thing_name.Own ip) apart = ap ids_in (gone_off names (owner.Own ip) o (λ e. no_own plan is (name_of u) o ip (sym e) numbered of))
+        by (thing_name.Own v ip) apart = ap ids_in (gone_off names (owner.Own v ip) o (λ e. no_own plan is (name_of u) o v ip (sym e) numbered of))
         by _ apart = refl
 
     pub take_tied : TiesAfter plan names rid rid' (Take n) None (record { 0 = 0 }) → (j : Rid) (u : Thing) → without L n j u → has_number u ≡ true → HasTied (taken_names names n) (name_of u) j

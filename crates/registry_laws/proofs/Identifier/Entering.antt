@@ -25,9 +25,9 @@ removed_entries : (a b : Entry Vid) → call.Remove a ≡ call.Remove b → a �
 removed_entries a b e = cc
 
 entry_by_with : (t : Thing) (v i j u : Vid) → entry_by v (body_with t i j) ≡ entry.Oid u → (has_number t ≡ true) × (v ≡ u)
-entry_by_with (thing.Own ip) v i j u e = absurd cc
+entry_by_with (thing.Own w ip) v i j u e = absurd cc
 entry_by_with (thing.Neighbor hop mac) v i j u e = absurd cc
-entry_by_with (thing.Route prefix goal) v i j u e = absurd cc
+entry_by_with (thing.Route w prefix goal) v i j u e = absurd cc
 entry_by_with _ v i j u e = let same : v ≡ u = cc in (refl, same)
 
 module _ (at : ThingName → Vid → Type 0) where

@@ -7,6 +7,7 @@ use Rattle.table_schema.specs.declared.key.Key.TheVariants as key
 use Rattle.table_schema.specs.declared.row.Row.{Row}
 use Rattle.table_schema.specs.declared.row.Row.TheVariants as row
 use Rattle.swss_types.specs.declared.interface.IfName.{IfName}
+use Rattle.swss_types.specs.declared.vrf.Vrf.TheVariants as vrf
 use Rattle.swss_types.proofs.Proper.{mapped}
 use Rattle.sai_types.specs.declared.hop.Hop.{Hop}
 use Rattle.sai_types.specs.declared.weight.WHop.{WHop}
@@ -124,22 +125,23 @@ module _ (plan : Ports) (is : IsPlan plan) (m : Machine) (sound : IsConsistent p
           by i at e (inr shared) = absurd (shared_row o (key.Neigh i hop.ip) shared (sym e))
       entered_known k (thing_name.Port lane) o of whose alone there rif = as_is k (thing_name.Port lane) (λ hop e. cc) (row_entered k (thing_name.Port lane) o refl tt of (of_row o (port_named plan lane) key.Port of) whose there)
       entered_known k (thing_name.Vlan vlan) o of whose alone there rif = as_is k (thing_name.Vlan vlan) (λ hop e. cc) (row_entered k (thing_name.Vlan vlan) o refl tt of (key.Vlan vlan, same_Some _ o of) whose there)
+      entered_known k (thing_name.VirtualRouter label) o of whose alone there rif = absurd cc
       entered_known k (thing_name.BridgePort lane) o of whose alone there rif = as_is k (thing_name.BridgePort lane) (λ hop e. cc) (stands_known (thing_name.BridgePort lane) (owner.Bridge lane) refl tt refl (λ v g at builds e. cc) there, tt)
       entered_known k (thing_name.VlanMember vlan lane) o of whose alone there rif = as_is k (thing_name.VlanMember vlan lane) (λ hop e. cc) (row_entered k (thing_name.VlanMember vlan lane) o refl tt of (of_row o (port_named plan lane) (key.Member vlan) of) whose there)
       entered_known k (thing_name.Rif b) o of whose alone there rif = as_is k (thing_name.Rif b) (λ hop e. cc) (row_entered k (thing_name.Rif b) o refl tt of (of_row o (interface_on plan b) key.Intf of) whose there)
       entered_known k (thing_name.NextHop hop) o of whose alone there rif = as_is k (thing_name.NextHop hop) (λ hop e. cc) (row_entered k (thing_name.NextHop hop) o refl tt of (of_row o (interface_on plan hop.on) (λ i. key.Neigh i hop.ip) of) whose there)
       entered_known k (thing_name.Group hops) o of whose alone there rif = absurd (alone hops (sym (same_Some (owner.Group hops) o of)))
       entered_known k (thing_name.GroupMember hops hop) o of whose alone there rif = absurd (alone hops (sym (same_Some (owner.Group hops) o of)))
-      entered_known k (thing_name.Own ip) o of whose alone there rif = as_is k (thing_name.Own ip) (λ hop e. cc) tt
-      entered_known k (thing_name.Route prefix) o of whose alone there rif = as_is k (thing_name.Route prefix) (λ hop e. cc) tt
+      entered_known k (thing_name.Own v ip) o of whose alone there rif = as_is k (thing_name.Own v ip) (λ hop e. cc) tt
+      entered_known k (thing_name.Route v prefix) o of whose alone there rif = as_is k (thing_name.Route v prefix) (λ hop e. cc) tt
 
       -- what points at something else points at what the new row names or shares
       set_known : (k : Key) (r : Row) (u like : Thing) → IsIn like (own_things plan k r) → Resembles u like → RowsKnown plan names k r → SharedKnown plan names k r → HaveIds names (set_refers k (Some r) u)
-      set_known (key.Route prefix) (row.Route r) (thing.Route p g) like own resembles rows shared =
+      set_known (key.Route prefix) (row.Route r) (thing.Route v p g) like own resembles rows shared =
           let m = from_in (goal_of plan r) _ like own in
           by m.0 m.1 m.2 resembles.same
         where
-          by : (h : Goal) → goal_of plan r ≡ Some h → IsIn like (thing.Route prefix h ∷ []) → (thing.Route p g ≡ like) ⊎ IsSamePort (thing.Route p g) like → HaveIds names (pointed (Some (row.Route r)) g)
+          by : (h : Goal) → goal_of plan r ≡ Some h → IsIn like (thing.Route vrf.Default prefix h ∷ []) → (thing.Route v p g ≡ like) ⊎ IsSamePort (thing.Route v p g) like → HaveIds names (pointed (Some (row.Route r)) g)
           by h at (inl is) (inl same) =
               let goals : h ≡ g = cc in
               subst (λ z. HaveIds names (pointed (Some (row.Route r)) z)) goals (pointed_known plan names prefix r h at rows shared)

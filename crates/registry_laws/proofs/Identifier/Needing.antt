@@ -4,6 +4,7 @@ use Rattle.std.specs.Prelude.{IsSome}
 use Rattle.swss_types.specs.declared.address.Prefix as key_prefix
 use Rattle.swss_types.specs.declared.interface.IfName.{IfName}
 use Rattle.swss_types.specs.declared.interface.IfName.TheVariants as on
+use Rattle.swss_types.specs.declared.vrf.Vrf.TheVariants as vrf
 use Rattle.swss_types.proofs.Proper.{mapped}
 use Rattle.table_schema.specs.Names.{base_names, names_of}
 use Rattle.table_schema.specs.Plan.{Ports}
@@ -127,14 +128,14 @@ module _ (plan : Ports) (names : Names) where
       ) m.2
   referred_known (key.Intf i) row.Intf t fit h rows shared =
       let m = from_in (base_of plan i) _ t h in
-      only (λ z. HaveIds names (referred (key.Intf i) (Some row.Intf) z)) t (thing.Rif m.0) (interface_known i row.Intf m.0 m.1 rows) m.2
+      only (λ z. HaveIds names (referred (key.Intf i) (Some row.Intf) z)) t (thing.Rif m.0 vrf.Default) (interface_known i row.Intf m.0 m.1 rows) m.2
   referred_known (key.Neigh i ip) (row.Neigh mac) t fit h rows shared =
       let m = from_in (base_of plan i) _ t h in
       let on = rif_known (key.Neigh i ip) (row.Neigh mac) i m.0 m.1 (inl refl) rows in
       two (λ z. HaveIds names (referred (key.Neigh i ip) (Some (row.Neigh mac)) z)) t (thing.Neighbor (record { on = m.0; ip = ip }) mac) (thing.NextHop (record { on = m.0; ip = ip })) on on m.2
   referred_known (key.Route prefix) (row.Route r) t fit h rows shared =
       let m = from_in (goal_of plan r) _ t h in
-      only (λ z. HaveIds names (referred (key.Route prefix) (Some (row.Route r)) z)) t (thing.Route prefix m.0) (pointed_known prefix r m.0 m.1 rows shared) m.2
+      only (λ z. HaveIds names (referred (key.Route prefix) (Some (row.Route r)) z)) t (thing.Route vrf.Default prefix m.0) (pointed_known prefix r m.0 m.1 rows shared) m.2
   referred_known k r t fit h rows shared = elim h [ ]
 
   -- and a thing that it shares
@@ -162,8 +163,8 @@ module _ (plan : Ports) (names : Names) where
 -- but for a neighbour, which is named by its interface
 abbrev pub entered_by : Key → ThingName → List registry_name.Name
 entered_by k (thing_name.BridgePort lane) = name.BridgePort lane ∷ []
-entered_by k (thing_name.Own ip) = []
-entered_by k (thing_name.Route prefix) = []
+entered_by k (thing_name.Own v ip) = []
+entered_by k (thing_name.Route v prefix) = []
 entered_by k n = name.Row k ∷ []
 
 pub entered_other : (k : Key) (n : ThingName) → ((hop : Hop) → n ≡ thing_name.Neighbor hop → ⊥) → entered k n ≡ entered_by k n

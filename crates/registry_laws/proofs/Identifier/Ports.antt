@@ -62,7 +62,7 @@ not_port (Some z) g q other h = let same : g z ≡ key.Port q = cc in absurd (ot
 of_port : (plan : Ports) (u : Thing) (q : ℕ) → IsOwnedBy plan (name_of u) (owner.OfRow (key.Port q)) → (p : PortThing) × (u ≡ thing.Port p)
 of_port plan (thing.Port p) q h = (p, refl)
 of_port plan (thing.VlanMember vlan lane tagging) q h = not_port (port_named plan lane) (key.Member vlan) q (λ z e. cc) h
-of_port plan (thing.Rif b) q h = not_port (interface_on plan b) key.Intf q (λ z e. cc) h
+of_port plan (thing.Rif b v) q h = not_port (interface_on plan b) key.Intf q (λ z e. cc) h
 of_port plan (thing.Neighbor hop mac) q h = not_port (interface_on plan hop.on) (λ i. key.Neigh i hop.ip) q (λ z e. cc) h
 of_port plan (thing.NextHop hop) q h = not_port (interface_on plan hop.on) (λ i. key.Neigh i hop.ip) q (λ z e. cc) h
 of_port plan _ q h = absurd cc

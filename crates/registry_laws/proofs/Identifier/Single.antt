@@ -8,6 +8,7 @@ use Rattle.std.proofs.lemmas.Bool.{eqb-true, false≢true}
 use Rattle.std.proofs.lemmas.Cmp.{nat_cmp_total, tied_itself}
 use Rattle.std.proofs.lemmas.Option.{same_Some}
 use Rattle.swss_types.specs.declared.address.Ip.{Ip}
+use Rattle.swss_types.specs.declared.vrf.Vrf.{Vrf}
 use Rattle.swss_types.specs.declared.interface.IfName.{IfName}
 use Rattle.swss_types.specs.declared.interface.IfName.TheVariants as on
 use Rattle.swss_types.proofs.Proper.{mapped}
@@ -77,6 +78,7 @@ module _ (plan : Ports) (is : IsPlan plan) where
       let m = mapped (λ p. owner.OfRow (key.Port p)) (port_named plan lane) o h in
       ap (owner_name plan) (sym m.2) ∙ ap (option_map thing_name.Port) (lane_named plan is.rising lane m.0 m.1)
   named_by (thing_name.Vlan vlan) o numbered alone h = ap (owner_name plan) (sym (same_Some (owner.OfRow (key.Vlan vlan)) o h))
+  named_by (thing_name.VirtualRouter label) o numbered alone h = not_some o h
   named_by (thing_name.BridgePort lane) o numbered alone h = ap (owner_name plan) (sym (same_Some (owner.Bridge lane) o h))
   named_by (thing_name.VlanMember vlan lane) o numbered alone h =
       let m = mapped (λ p. owner.OfRow (key.Member vlan p)) (port_named plan lane) o h in
@@ -95,8 +97,8 @@ module _ (plan : Ports) (is : IsPlan plan) where
   one_name n m o x y alone of other = same_Some n m (sym (named_by n o x alone of) ∙ named_by m o y alone other)
 
   -- an own address has none
-  pub no_own : (n : ThingName) (o : Owner) (ip : Ip) → o ≡ owner.Own ip → is_numbered (name_kind n) ≡ true → IsOwnedBy plan n o → ⊥
-  no_own n o ip e numbered of = not_some n (sym (ap (owner_name plan) e) ∙ named_by n o numbered (λ hops h. no_group ip hops (sym e ∙ h)) of)
+  pub no_own : (n : ThingName) (o : Owner) (v : Vrf) (ip : Ip) → o ≡ owner.Own v ip → is_numbered (name_kind n) ≡ true → IsOwnedBy plan n o → ⊥
+  no_own n o v ip e numbered of = not_some n (sym (ap (owner_name plan) e) ∙ named_by n o numbered (λ hops h. no_group hops (sym e ∙ h)) of)
     where
-      no_group : (ip : Ip) (hops : List WHop) → owner.Own ip ≡ owner.Group hops → ⊥
-      no_group ip hops h = cc
+      no_group : (hops : List WHop) → owner.Own v ip ≡ owner.Group hops → ⊥
+      no_group hops h = cc

@@ -1,5 +1,7 @@
 -- a call that is told by the service's identifiers is one by those to which they are tied
-use Rattle.std.proofs.Common.{◌≡◌, ◌⊎◌, ◌∙◌, inl, inr, true, List, Option, None, Some, refl, sym, ap, subst}
+use Rattle.std.proofs.Common.{◌≡◌, ◌⊎◌, ◌∙◌, inl, inr, true, List, Option, None, Some, option_map, refl, sym, ap, subst}
+use Rattle.swss_types.specs.declared.vrf.Vrf.{Vrf}
+use Rattle.swss_types.specs.declared.vrf.Vrf.TheVariants as vrf
 use Rattle.sai_types.specs.declared.ids.Rid.{Rid}
 use Rattle.sai_types.specs.declared.ids.Vid.{Vid}
 use Rattle.sai_types.specs.declared.hop.Hop.{Hop}
@@ -17,13 +19,13 @@ use Rattle.sai_types.specs.declared.thing.Thing.TheVariants as thing
 use Rattle.sai_types.specs.After.{entry_of}
 use Rattle.sai_types.specs.Alike.{IsIn}
 use Rattle.sai_types.specs.Names as name
-use Rattle.sai_types.specs.Names.{ThingName, name_kind, name_of}
+use Rattle.sai_types.specs.Names.{ThingName, name_kind, name_of, thing_router}
 use Rattle.sai_types.specs.Objects.{Objects}
-use Rattle.chip_layout.specs.Bodies.{IsAt, IsBody, IsChange, body_with, first_name, goal_name, is_numbered, second_name, to_with}
+use Rattle.chip_layout.specs.Bodies.{IsAt, IsBody, IsChange, body_with, first_name, goal_name, is_numbered, second_name, to_with, vr_with}
 use Rattle.chip_layout.specs.Layout.{Has, IsLaidOut, Layout, has_number}
 use Rattle.chip_layout.specs.Renamed.{attr_renamed, body_renamed, call_renamed, entry_renamed, to_renamed}
 use Rattle.chip_layout.proofs.Bodies.{first-numbered, second-numbered}
-use Rattle.chip_layout.proofs.Entries.{IsEntry, entry-named, entry-one}
+use Rattle.chip_layout.proofs.Entries.{IsEntry, IsRouter, entry-named, entry-one}
 use Rattle.chip_layout.proofs.Laid.{changed}
 use Rattle.chip_layout.proofs.Shapes.{renamed_with}
 use Rattle.switch_machine.specs.Changes.{IsMakeCall, IsSetCall, IsTakeCall}
@@ -60,9 +62,21 @@ port_or : (t : Thing) → ((p : PortThing) × (t ≡ thing.Port p)) ⊎ ((p : Po
 port_or (thing.Port p) = inl (p, refl)
 port_or _ = inr (λ p h. cc)
 
+-- the virtual router of what is named with it
+abbrev pub router_in : ThingName → Vrf
+router_in (name.Own v ip) = v
+router_in (name.Route v prefix) = v
+router_in _ = vrf.Default
+
+pub named-default : (t : Thing) → thing_router t ≡ vrf.Default → router_in (name_of t) ≡ vrf.Default
+named-default (thing.Own v ip) h = h
+named-default (thing.Route v prefix goal) h = h
+named-default _ h = refl
+
 -- ---- the call
 
-module _ (L : Layout Rid) (objects : Objects) (laid : IsLaidOut L objects) (at : ThingName → Vid → Type 0) (f : Vid → Rid) (tied : (n : ThingName) (v : Vid) (i : Rid) → is_numbered (name_kind n) ≡ true → Has L n i → at n v → f v ≡ i) where
+-- where all that stands is in the default router
+module _ (L : Layout Rid) (objects : Objects) (laid : IsLaidOut L objects) (default : (i : Rid) (u : Thing) → L i u → thing_router u ≡ vrf.Default) (at : ThingName → Vid → Type 0) (f : Vid → Rid) (tied : (n : ThingName) (v : Vid) (i : Rid) → is_numbered (name_kind n) ≡ true → Has L n i → at n v → f v ≡ i) where
   -- what has an identifier on the chip has the one to which its own is tied
   tied_at : (o : Option ThingName) (v : Vid) (i : Rid) → ((n : ThingName) → o ≡ Some n → is_numbered (name_kind n) ≡ true) → IsAt (Has L) o i → IsAt at o v → IsAt (Has L) o (f v)
   tied_at None v i numbered there h = tt
@@ -84,17 +98,21 @@ module _ (L : Layout Rid) (objects : Objects) (laid : IsLaidOut L objects) (at :
 
   -- ---- the entry of what stands
 
-  entry_with : (t : Thing) (v a b : Vid) → (has_number t ≡ true → Has L (name_of t) (f v)) → ((hop : Hop) → name_of t ≡ name.Neighbor hop → Has L (name.Rif hop.on) (f a)) → IsEntry (Has L) (name_of t) (entry_renamed f (entry_by v (body_with t a b)))
-  entry_with (thing.Own ip) v a b h n = refl
-  entry_with (thing.Neighbor hop mac) v a b h n = (hop.on, refl, n hop refl)
-  entry_with (thing.Route prefix to) v a b h n = refl
-  entry_with _ v a b h n = (refl, h refl)
+  default_router : (w : Vrf) (b : Vid) → w ≡ vrf.Default → IsRouter (Has L) w (option_map f (vr_with w b))
+  default_router vrf.Default b is = tt
+  default_router (vrf.Named label) b is = absurd cc
+
+  entry_with : (t : Thing) (v a b : Vid) → router_in (name_of t) ≡ vrf.Default → (has_number t ≡ true → Has L (name_of t) (f v)) → ((hop : Hop) → name_of t ≡ name.Neighbor hop → Has L (name.Rif hop.on) (f a)) → IsEntry (Has L) (name_of t) (entry_renamed f (entry_by v (body_with t a b)))
+  entry_with (thing.Own w ip) v a b is h n = (w, refl, default_router w b is)
+  entry_with (thing.Neighbor hop mac) v a b is h n = (hop.on, refl, n hop refl)
+  entry_with (thing.Route w prefix to) v a b is h n = (w, refl, default_router w b is)
+  entry_with _ v a b is h n = (refl, h refl)
 
   -- a thing is told by its entry, and another of its name stands
   entry_told : (old : Thing) (e : Entry Vid) (i : Rid) (u : Thing) (d : Body Rid) → IsEntryOf at old e → L i u → name_of u ≡ name_of old → IsBody (Has L) u d → entry_renamed f e ≡ entry_of i.0 d
   entry_told old e i u d x there same y =
       entry-one L objects laid (name_of old) (entry_renamed f e) (entry_of i.0 d)
-      (subst (λ z. IsEntry (Has L) (name_of old) (entry_renamed f z)) (sym (x.is ∙ ap (entry_by x.id) x.of.body_is)) (entry_with old x.id x.of.first x.of.second numbered neighbor))
+      (subst (λ z. IsEntry (Has L) (name_of old) (entry_renamed f z)) (sym (x.is ∙ ap (entry_by x.id) x.of.body_is)) (entry_with old x.id x.of.first x.of.second (ap router_in (sym same) ∙ named-default u (default i u there)) numbered neighbor))
       (subst (λ z. IsEntry (Has L) z (entry_of i.0 d)) same (entry-named L objects laid i u d there y))
     where
       has : Has L (name_of old) i
@@ -131,12 +149,12 @@ module _ (L : Layout Rid) (objects : Objects) (laid : IsLaidOut L objects) (at :
   change_told (thing.VlanMember v l s) old u (attr.Tagging z) b port same x y = absurd cc
   change_told (thing.Neighbor h m) (thing.Neighbor g n) u (attr.Mac z) b port same x y = cc
   change_told (thing.Neighbor h m) old u (attr.Mac z) b port same x y = absurd cc
-  change_told (thing.Route p g) (thing.Route q e) u (attr.To z) (attr.To y) port same (next, i, told, is, later) (goal, j, there, _, set) =
+  change_told (thing.Route v p g) (thing.Route w q e) u (attr.To z) (attr.To y) port same (next, i, told, is, later) (goal, j, there, _, set) =
       let goals : goal ≡ next = cc in
-      let prefixes : thing.Route p next ≡ thing.Route q next = cc in
-      (next, f i, tied_at (goal_name next) i j (goal_numbered next) (subst (λ w. IsAt (Has L) (goal_name w) j) goals there) told, ap (to_renamed f) is ∙ to_is f next i, later ∙ prefixes)
-  change_told (thing.Route p g) (thing.Route q e) u (attr.To z) b port same x y = elim y [ ]
-  change_told (thing.Route p g) old u (attr.To z) b port same x y = absurd cc
+      let prefixes : thing.Route v p next ≡ thing.Route w q next = cc in
+      (next, f i, tied_at (goal_name next) i j (goal_numbered next) (subst (λ x. IsAt (Has L) (goal_name x) j) goals there) told, ap (to_renamed f) is ∙ to_is f next i, later ∙ prefixes)
+  change_told (thing.Route v p g) (thing.Route w q e) u (attr.To z) b port same x y = elim y [ ]
+  change_told (thing.Route v p g) old u (attr.To z) b port same x y = absurd cc
   change_told _ old u a b port same x y = elim x [ ]
 
   port_told : (p : PortThing) (u : Thing) (a : Attr Vid) → IsChange at (thing.Port p) a u → IsChange (Has L) (thing.Port p) (attr_renamed f a) u

@@ -68,15 +68,15 @@ live_gone names p o live w h = by (owner_split p o)
 
 pub live_after : (names : Names) (k : Key) (c : Change) (made : Option Vid) (o : Owner) → state_of names (name_for o) ≡ state.Live → IsUnbuilt (names_after names k c made) o
 live_after names k (Make (thing.BridgePort lane)) made o live = live_made names (owner.Bridge lane) o (to_list made) live
-live_after names k (Make (thing.Own ip)) made o live = live_made names (owner.Own ip) o [] live
+live_after names k (Make (thing.Own v ip)) made o live = live_made names (owner.Own v ip) o [] live
 live_after names k (Make (thing.Neighbor hop mac)) made o live = live_unbuilt names o live
-live_after names k (Make (thing.Route prefix goal)) made o live = live_unbuilt names o live
+live_after names k (Make (thing.Route v prefix goal)) made o live = live_unbuilt names o live
 live_after names k (Make (thing.Group hops)) made o live = live_unbuilt names o live
 live_after names k (Make (thing.GroupMember hops hop)) made o live = live_unbuilt names o live
 live_after names k (Make t) made o live = live_made names (owner.OfRow k) o (to_list made) live
 live_after names k (Set u) made o live = live_unbuilt names o live
 live_after names k (Take (thing_name.BridgePort lane)) made o live = live_gone names (owner.Bridge lane) o live
-live_after names k (Take (thing_name.Own ip)) made o live = live_gone names (owner.Own ip) o live
+live_after names k (Take (thing_name.Own v ip)) made o live = live_gone names (owner.Own v ip) o live
 live_after names k (Take n) made o live = live_unbuilt names o live
 
 -- ---- the call is made

@@ -58,7 +58,7 @@ after_ids : (names : Names) (k : Key) (c : Change) (made : Option Vid) (hops : L
 after_ids names k (Make t) made hops = made_off names k t made (owner.Group hops) (no_made_group k t hops)
 after_ids names k (Set u) made hops = refl
 after_ids names k (Take (thing_name.BridgePort lane)) made hops = ap ids_in (gone_off names (owner.Bridge lane) (owner.Group hops) (λ e. cc))
-after_ids names k (Take (thing_name.Own ip)) made hops = ap ids_in (gone_off names (owner.Own ip) (owner.Group hops) (λ e. cc))
+after_ids names k (Take (thing_name.Own v ip)) made hops = ap ids_in (gone_off names (owner.Own v ip) (owner.Group hops) (λ e. cc))
 after_ids names k (Take n) made hops = refl
 
 pub whole_took : (names names' : Names) (f f' : Operation) (made : Option Vid) → MayTake f made names → IsTook f made names f' names' → HasWholeGroups names → HasWholeGroups names'

@@ -12,6 +12,7 @@ use Rattle.sai_types.specs.declared.plan.Mode.{Mode}
 use Rattle.sai_types.specs.declared.plan.Mode.TheVariants as mode
 use Rattle.sai_types.specs.declared.plan.Plan.{Plan}
 use Rattle.sai_types.specs.declared.thing.Thing.{Thing}
+use Rattle.sai_types.specs.declared.thing.Thing.TheVariants as thing
 use Rattle.sai_types.specs.Alike.{IsIn}
 use Rattle.sai_types.specs.Names.{ThingName}
 use Rattle.sai_types.specs.Objects.{Objects}
@@ -20,15 +21,15 @@ use Rattle.chip_names.specs.Naming.{entries_of}
 use Rattle.plan_laws.specs.Moments.{MakesChanges}
 use Rattle.plan_laws.specs.Old.{chip_groups, is_double, is_group_of, old_things, seen_things, shown_hops, tag_for, tag_of}
 use Rattle.plan_laws.specs.Plans.{PlanChange, IsViewPlan, cold_rank, hitless_rank}
-use Rattle.plan_laws.specs.Views.{AreLacking, FitsHitless}
-use Rattle.plan_laws.proofs.Doubles.{fits-shown, shown-lacking}
+use Rattle.plan_laws.specs.Views.{AreLacking, FitsHitless, SameRouters}
+use Rattle.plan_laws.proofs.Doubles.{fits-shown, routers-shown, routers-shown-back, shown-lacking}
 use Rattle.plan_laws.proofs.Lists.{any-in, in-any}
 use Rattle.chip_layout.specs.Seen.{seen}
 use Rattle.restart_laws.specs.Planned.{IsPlannedAs, PlansCold, PlansHitless}
 use Rattle.apply_laws.specs.Apply.{ComeToNextIds, IsPlannedFrom, calls_by}
 use Rattle.apply_laws.specs.Viewed.{things_in}
 use Rattle.apply_laws.proofs.Order.Applying.{applies-cold, applies-hitless, cold-all, is-hitless, hitless_changes, cold_back, cold_front, cold_makes, cold_removes}
-use Rattle.apply_laws.proofs.Order.Modes.{fits-told, told-fits}
+use Rattle.apply_laws.proofs.Order.Modes.{fits-told, routers-told, told-fits, told-routers}
 use Rattle.plan_laws.specs.Calls.{resolve}
 use Rattle.chip_layout.specs.Renamed.{call_renamed}
 use Rattle.sai_types.specs.declared.plan.PlanCall.{PlanCall}
@@ -72,10 +73,17 @@ module _ (a b : List Thing) (into : (t : Thing) → IsIn t a → IsIn t b) (back
   fits_back : (capacities : List ℕ) (objects : Objects) (old : List Thing) → FitsHitless capacities objects old b → FitsHitless capacities objects old a
   fits_back capacities objects old fits kind names x = fits kind names (record { distinct = x.distinct; each = λ k i. let m = x.each k i in (m.0, m.1, into m.1 m.2, m.3, m.4) })
 
+  routers_alike : (old : List Thing) → SameRouters old a → SameRouters old b
+  routers_alike old same on v w i j = same on v w i (back (thing.Rif on w) j)
+
+  routers_back : (old : List Thing) → SameRouters old b → SameRouters old a
+  routers_back old same on v w i j = same on v w i (into (thing.Rif on w) j)
+
   pub planned-alike : (m : Mode) (capacities : List ℕ) (made : ℕ) (objects : Objects) (calls : List (Call Rid)) → IsPlannedAs m capacities made objects a calls → IsPlannedAs m capacities made objects b calls
   planned-alike mode.Hitless capacities made objects calls x = record {
     steps = x.steps;
     fits = fits_alike capacities objects (old_things objects b) (subst (λ old. FitsHitless capacities objects old a) (things_alike objects) x.fits);
+    routers = routers_alike (old_things objects b) (subst (λ old. SameRouters old a) (things_alike objects) x.routers);
     is_plan = view_plan hitless_rank (old_things objects b) x.steps (subst (λ old. IsViewPlan hitless_rank old a x.steps) (things_alike objects) x.is_plan);
     run = subst (λ tag. MakesChanges made (seen tag objects) x.steps calls) (tags_alike objects) x.run;
   }
@@ -84,7 +92,9 @@ module _ (a b : List Thing) (into : (t : Thing) → IsIn t a → IsIn t b) (back
     makes = x.makes;
     front = x.front;
     rest = x.rest;
-    lacks = λ fits. x.lacks (subst (λ old. FitsHitless capacities objects old a) (sym (things_alike objects)) (fits_back capacities objects (old_things objects b) fits));
+    lacks = λ fits routers.
+        x.lacks (subst (λ old. FitsHitless capacities objects old a) (sym (things_alike objects)) (fits_back capacities objects (old_things objects b) fits))
+        (subst (λ old. SameRouters old a) (sym (things_alike objects)) (routers_back (old_things objects b) routers));
     removing = subst (λ old. IsViewPlan cold_rank old [] x.removes) (things_alike objects) x.removing;
     making = view_plan cold_rank [] x.makes x.making;
     first = subst (λ tag. MakesChanges made (seen tag objects) x.removes x.front) (tags_alike objects) x.first;
@@ -98,7 +108,8 @@ module _ {capacities : List ℕ} {made : ℕ} {old : List (Object Rid)} {new : L
   hitless_planned : plan.mode ≡ mode.Hitless → PlansHitless capacities made (entries_of old) (things_in things) (calls_by ids plan)
   hitless_planned e = record {
     steps = hitless_changes x e;
-    fits = fits-shown x.chip (things_in things) x.view.view capacities (fits-told old x.chip x.view x.lanes capacities (x.planned.mode.0 e));
+    fits = fits-shown x.chip (things_in things) x.view.view capacities (fits-told old x.chip x.view x.lanes capacities (x.planned.mode.0 e).0);
+    routers = routers-shown x.chip (things_in things) x.view.view (routers-told old x.chip x.view x.lanes (x.planned.mode.0 e).1);
     is_plan = (is-hitless x e).is_plan;
     run = (applies-hitless x e ids numbered).run;
   }
@@ -111,7 +122,11 @@ module _ {capacities : List ℕ} {made : ℕ} {old : List (Object Rid)} {new : L
         makes = cold_makes x e;
         front = map (call_renamed (resolve ids)) (map (λ (c : PlanCall). c.call) (cold_front x e));
         rest = map (call_renamed (resolve ids)) (map (λ (c : PlanCall). c.call) (cold_back x e));
-        lacks = λ fits. apart (x.planned.mode.1 (told-fits old x.chip x.view x.lanes capacities (λ kind names h. fits kind names (shown-lacking x.chip (things_in things) x.view.view kind names h))));
+        lacks = λ fits routers.
+            apart (x.planned.mode.1 (
+              told-fits old x.chip x.view x.lanes capacities (λ kind names h. fits kind names (shown-lacking x.chip (things_in things) x.view.view kind names h)),
+              told-routers old x.chip x.view x.lanes (routers-shown-back x.chip (things_in things) x.view.view routers),
+            ));
         removing = a.planned.removing;
         making = a.planned.making;
         first = a.removing;

@@ -86,12 +86,12 @@ module _ {Y : Type 0} (h : Item → Y) (same : (v : Vid) (b : Body Vid) (o p : O
 
   entries_alike : (os : ViewObjects) (e : Entry Rid) (f : Entry Vid) → map h (tied_entries os e f) ≡ map h os
   entries_alike os (entry.Oid r) (entry.Oid v) = tie-alike os v r
-  entries_alike os (entry.Oid r) (entry.Own ip) = refl
+  entries_alike os (entry.Oid r) (entry.Own vr ip) = refl
   entries_alike os (entry.Oid r) (entry.Neigh w ip) = refl
-  entries_alike os (entry.Oid r) (entry.Route p) = refl
-  entries_alike os (entry.Own ip) f = refl
+  entries_alike os (entry.Oid r) (entry.Route vr p) = refl
+  entries_alike os (entry.Own vr ip) f = refl
   entries_alike os (entry.Neigh w ip) f = refl
-  entries_alike os (entry.Route p) f = refl
+  entries_alike os (entry.Route vr p) f = refl
 
   objects_alike : (os : ViewObjects) (o : Option (Object Rid)) (n : Option (Object Vid)) → map h (tied_objects os o n) ≡ map h os
   objects_alike os (Some a) (Some b) = entries_alike os a.entry b.entry
@@ -166,16 +166,16 @@ numbered (body.Vlan vlan) = refl
 numbered _ = refl
 
 entry_at_id : {I : Type 0} (i : I) (b : Body I) → has_id b ≡ true → entry_at i b ≡ entry.Oid i
-entry_at_id i (body.OwnAddress ip) h = absurd (false≢true h)
+entry_at_id i (body.OwnAddress vr ip) h = absurd (false≢true h)
 entry_at_id i (body.Neighbor rif ip mac) h = absurd (false≢true h)
-entry_at_id i (body.Route prefix to) h = absurd (false≢true h)
+entry_at_id i (body.Route vr prefix to) h = absurd (false≢true h)
 entry_at_id i (body.Port l s m u) h = refl
 entry_at_id i _ h = refl
 
 id_there : (v w : Vid) (b : Body Vid) → entry_at v b ≡ entry.Oid w → has_id b ≡ true
-id_there v w (body.OwnAddress ip) e = absurd cc
+id_there v w (body.OwnAddress vr ip) e = absurd cc
 id_there v w (body.Neighbor r ip m) e = absurd cc
-id_there v w (body.Route p t) e = absurd cc
+id_there v w (body.Route vr p t) e = absurd cc
 id_there v w (body.Port l s m u) e = refl
 id_there v w _ e = refl
 

@@ -23,9 +23,9 @@ use Rattle.session_laws.specs.Service.Standing.{HaveNumbers}
 
 -- a new identifier is its number
 own_number : (r : Rid) (n : ℕ) (b : Body Rid) → entry.Oid r ≡ entry_of n b → r.0 ≡ n
-own_number r n (body.OwnAddress ip) h = absurd cc
+own_number r n (body.OwnAddress vr ip) h = absurd cc
 own_number r n (body.Neighbor rif ip mac) h = absurd cc
-own_number r n (body.Route prefix to) h = absurd cc
+own_number r n (body.Route vr prefix to) h = absurd cc
 own_number r n (body.Port lanes speed mtu up) h = let is : r ≡ record { 0 = n } = cc in ap (λ (z : Rid). z.0) is
 own_number r n _ h = let is : r ≡ record { 0 = n } = cc in ap (λ (z : Rid). z.0) is
 

@@ -20,7 +20,7 @@ use Rattle.sai_types.specs.declared.thing.Thing.TheVariants as thing
 use Rattle.sai_types.specs.After.{entry_of}
 use Rattle.sai_types.specs.Alike.{IsAlike, IsIn, IsOnceIn}
 use Rattle.sai_types.specs.Made.{IsWhole, same_entry}
-use Rattle.sai_types.specs.Named.{bridge_port_at, goal_by, hop_on, hops_at, named, port_at, base_on, first_lane, thing_of, those, vlan_at, whop_at}
+use Rattle.sai_types.specs.Named.{bridge_port_at, goal_by, hop_on, hops_at, named, port_at, base_on, first_lane, router_at, thing_of, those, vlan_at, whop_at}
 use Rattle.sai_types.specs.Names.{Meet}
 use Rattle.sai_types.specs.Objects.{Objects, body_at, is_of, used}
 use Rattle.sai_types.specs.Refusal.{capacity_of}
@@ -105,18 +105,19 @@ same_entries e d h = key-exact e d (sym (entries_told_alike e d) ∙ ap (same_en
 port_of_body : (plan : Ports) (objects : Objects) (e : Entry Rid) (b : Body Rid) (p : PortThing) → IsPlannedBody plan b → thing_of objects (e, b) ≡ Some (thing.Port p) → IsPlannedThing plan (thing.Port p)
 port_of_body plan objects e (body.Port lanes speed mtu up) p planned shows = let same : lanes ≡ p.lanes = cc in subst (λ l. (q : ℕ) × (lanes_in_plan plan q ≡ Some l)) same planned
 port_of_body plan objects e (body.Vlan v) p planned shows = absurd cc
+port_of_body plan objects e (body.VirtualRouter label) p planned shows = absurd cc
 port_of_body plan objects e (body.BridgePort i) p planned shows = let m = mapped thing.BridgePort (port_at objects i) (thing.Port p) shows in let is = m.2 in absurd cc
 port_of_body plan objects e (body.VlanMember v i tagging) p planned shows = let m = both_mapped (λ w q. thing.VlanMember w q tagging) (vlan_at objects v) (bridge_port_at objects i) (thing.Port p) shows in let is = m.4 in absurd cc
-port_of_body plan objects e (body.Rif on) p planned shows = let m = mapped thing.Rif (base_on objects on) (thing.Port p) shows in let is = m.2 in absurd cc
-port_of_body plan objects e (body.OwnAddress ip) p planned shows = absurd cc
+port_of_body plan objects e (body.Rif vr on) p planned shows = let m = both_mapped thing.Rif (base_on objects on) (router_at objects vr) (thing.Port p) shows in let is = m.4 in absurd cc
+port_of_body plan objects e (body.OwnAddress vr ip) p planned shows = let m = mapped (λ v. thing.Own v ip) (router_at objects vr) (thing.Port p) shows in let is = m.2 in absurd cc
 port_of_body plan objects e (body.Neighbor rif ip mac) p planned shows = let m = mapped (λ h. thing.Neighbor h mac) (hop_on objects rif ip) (thing.Port p) shows in let is = m.2 in absurd cc
 port_of_body plan objects e (body.NextHop rif ip) p planned shows = let m = mapped thing.NextHop (hop_on objects rif ip) (thing.Port p) shows in let is = m.2 in absurd cc
 port_of_body plan objects (entry.Oid g) body.Group p planned shows = let m = mapped thing.Group (hops_at objects g) (thing.Port p) shows in let is = m.2 in absurd cc
-port_of_body plan objects (entry.Own ip) body.Group p planned shows = absurd cc
+port_of_body plan objects (entry.Own vr ip) body.Group p planned shows = absurd cc
 port_of_body plan objects (entry.Neigh r ip) body.Group p planned shows = absurd cc
-port_of_body plan objects (entry.Route q) body.Group p planned shows = absurd cc
+port_of_body plan objects (entry.Route vr q) body.Group p planned shows = absurd cc
 port_of_body plan objects e (body.GroupMember g n weight) p planned shows = let m = both_mapped thing.GroupMember (hops_at objects g) (whop_at objects n weight) (thing.Port p) shows in let is = m.4 in absurd cc
-port_of_body plan objects e (body.Route prefix to) p planned shows = let m = mapped (thing.Route prefix) (goal_by (hops_at objects) objects to) (thing.Port p) shows in let is = m.2 in absurd cc
+port_of_body plan objects e (body.Route vr prefix to) p planned shows = let m = both_mapped (λ v g. thing.Route v prefix g) (router_at objects vr) (goal_by (hops_at objects) objects to) (thing.Port p) shows in let is = m.4 in absurd cc
 
 -- two ports of the plan that can't stand together have the same lanes
 one_lanes : (plan : Ports) → IsPlan plan → (p q : PortThing) → IsPlannedThing plan (thing.Port p) → IsPlannedThing plan (thing.Port q) → Meet (thing.Port p) (thing.Port q) → p.lanes ≡ q.lanes
@@ -161,11 +162,12 @@ module _ (plan : Ports) (is : IsPlan plan) (capacities : List ℕ) (s : SwitchSt
 
   -- room for what stands, of each kind
   abbrev own_room : List ℕ
-  own_room = used S kind.Port ∷ used S kind.Vlan ∷ used S kind.BridgePort ∷ used S kind.VlanMember ∷ used S kind.Rif ∷ used S kind.OwnAddress ∷ used S kind.Neighbor ∷ used S kind.NextHop ∷ used S kind.Group ∷ used S kind.GroupMember ∷ used S kind.Route ∷ []
+  own_room = used S kind.Port ∷ used S kind.Vlan ∷ used S kind.VirtualRouter ∷ used S kind.BridgePort ∷ used S kind.VlanMember ∷ used S kind.Rif ∷ used S kind.OwnAddress ∷ used S kind.Neighbor ∷ used S kind.NextHop ∷ used S kind.Group ∷ used S kind.GroupMember ∷ used S kind.Route ∷ []
 
   in_room : (k : Kind) → used S k ≤ capacity_of own_room k
   in_room kind.Port = omega arith
   in_room kind.Vlan = omega arith
+  in_room kind.VirtualRouter = omega arith
   in_room kind.BridgePort = omega arith
   in_room kind.VlanMember = omega arith
   in_room kind.Rif = omega arith

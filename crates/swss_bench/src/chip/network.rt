@@ -84,7 +84,7 @@ fn make_interface(alloc: Global, chip: &mut SimChip) -> Result<Rid> {
         },
     )?;
     let on = RifOn::Port(port);
-    make(chip, Body::Rif { on })
+    make(chip, Body::Rif { vr: None, on })
 }
 
 /// Makes a neighbour and a next hop through it.

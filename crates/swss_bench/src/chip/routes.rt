@@ -23,7 +23,12 @@ pub fn make_routes(chip: &mut SimChip, network: &Network, routes: u32) -> Result
     for route in 0..routes {
         let prefix = prefix(route);
         let to = network.next_hop_for(route)?;
-        act(chip, Call::Create(Body::Route { prefix, to }))?;
+        let body = Body::Route {
+            vr: None,
+            prefix,
+            to,
+        };
+        act(chip, Call::Create(body))?;
     }
     Ok(())
 }
@@ -31,7 +36,7 @@ pub fn make_routes(chip: &mut SimChip, network: &Network, routes: u32) -> Result
 /// Sets each of the routes over a group.
 pub fn set_routes(chip: &mut SimChip, network: &Network, routes: u32) -> Result<()> {
     for route in 0..routes {
-        let entry = Entry::Route(prefix(route));
+        let entry = Entry::Route(None, prefix(route));
         let to = network.group_for(route)?;
         act(chip, Call::Set(entry, Attr::To(to)))?;
     }
@@ -41,7 +46,7 @@ pub fn set_routes(chip: &mut SimChip, network: &Network, routes: u32) -> Result<
 /// Removes the routes.
 pub fn remove_routes(chip: &mut SimChip, routes: u32) -> Result<()> {
     for route in 0..routes {
-        act(chip, Call::Remove(Entry::Route(prefix(route))))?;
+        act(chip, Call::Remove(Entry::Route(None, prefix(route))))?;
     }
     Ok(())
 }

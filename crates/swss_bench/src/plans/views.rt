@@ -19,6 +19,7 @@ pub fn objects(alloc: Global, routes: u32, groups: u32, moved: u32) -> Result<Ve
     };
     let port = push(&mut objects, port)?;
     let rif = Body::Rif {
+        vr: None,
         on: RifOn::Port(port),
     };
     let rif = push(&mut objects, rif)?;
@@ -81,7 +82,14 @@ fn push_routes(
             len: 24,
         };
         let to = To::Group(*group);
-        push(objects, Body::Route { prefix, to })?;
+        push(
+            objects,
+            Body::Route {
+                vr: None,
+                prefix,
+                to,
+            },
+        )?;
     }
     Ok(())
 }
@@ -91,7 +99,7 @@ fn push(objects: &mut Vec<Object<Vid>>, body: Body<Vid>) -> Result<Vid> {
     let vid = Vid((objects.len() as u64).saturating_add(1));
     let entry = match &body {
         Body::Neighbor { rif, ip, .. } => Entry::Neigh(*rif, *ip),
-        Body::Route { prefix, .. } => Entry::Route(*prefix),
+        Body::Route { vr, prefix, .. } => Entry::Route(*vr, *prefix),
         _ => Entry::Oid(vid),
     };
     objects.push(Object { entry, body })?;

@@ -4,7 +4,7 @@ use sai_types::{Base, Body, Entry, Goal, Hop, Hops, Object, PortThing, Rid, Thin
 use std::alloc::Global;
 use std::process::Abort;
 use switch_model::Wait;
-use swss_types::{Bits, Family, Ip, Lanes, OutOfMemory, Prefix, Text};
+use swss_types::{Bits, Family, Ip, Lanes, OutOfMemory, Prefix, Text, Vrf};
 use table_schema::Key;
 
 /// The address 10.0.0.1.
@@ -62,7 +62,7 @@ fn objects_and_things_are_copied(rt: HostRuntime) {
     let prefix = Prefix { ip: ten(), len: 32 };
     let hops = hops(&rt, alloc);
     assert!(rt; hops.items() == [hop(0), hop(4)].as_slice(), "in order");
-    copy_thing(&rt, &Thing::Route(prefix, Goal::Group(hops)));
+    copy_thing(&rt, &Thing::Route(Vrf::Default, prefix, Goal::Group(hops)));
 }
 
 #[test]

@@ -1,4 +1,5 @@
-use Rattle.machine_laws.proofs.Four.{four, named_below}
+use Rattle.machine_laws.proofs.Four.{four}
+use Rattle.switch_model.proofs.Levels.{named_below}
 use Rattle.machine_laws.proofs.laws.four_turns.Goals as goal
 
 pub returns-clause-levels : goal.returns-clause-levels

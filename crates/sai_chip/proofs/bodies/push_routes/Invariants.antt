@@ -4,8 +4,8 @@ use Rattle.sai_chip.specs.Bodies.{routed}
 use Rattle.sai_chip.proofs.bodies.push_routes.Given as goal
 
 -- what was there stays in front, and the objects so far, with those that are left, are all
-abbrev pub invariant-loop-prefix : goal.invariant-loop-prefix
-invariant-loop-prefix l = record {
+abbrev pub invariant-loop-vr : goal.invariant-loop-vr
+invariant-loop-vr l = record {
   front : take (length l.fn.out.items) l.out.items ≡ l.fn.out.items;
-  all : l.out.items ++ objects_of (routed l.prefix-iterator) ≡ l.fn.out.items ++ objects_of (routed l.routes);
+  all : l.out.items ++ objects_of (routed l.vr-iterator) ≡ l.fn.out.items ++ objects_of (routed l.routes);
 }

@@ -2,7 +2,8 @@ use Rattle.std.proofs.Common.{sym, ap, ◌∙◌}
 use Rattle.serde_json.specs.Find.{as_array}
 use Rattle.serde_json.specs.View.{items_view, view}
 use Rattle.serde_json.proofs.Views.{view-Array}
-use Rattle.swss_script.proofs.Batches.{batch-none, batch-list, if_ok-same}
+use Rattle.swss_image.proofs.Results.{if_ok-same}
+use Rattle.swss_script.proofs.Batches.{batch-none, batch-list}
 use Rattle.swss_script.proofs.batch.read_batch.Goals as goal
 
 pub returns-in-Err-2 : goal.returns-in-Err-2

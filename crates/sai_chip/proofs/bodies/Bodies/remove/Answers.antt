@@ -16,12 +16,12 @@ returns-in-Oid c = rw (c.in-Oid.is, ← c.self.view_is) (record {
 })
 
 pub invariant_of-self-in-Own : goal.invariant_of-self-in-Own
-invariant_of-self-in-Own c = keeps (objects_in c.self.inside.numbered c.self.inside.own.keys c.self.inside.neighbors.entries c.self.inside.routes) 0 (call.Remove (entry.Own c.in-Own.ip)) c.self.inside.numbered c.remove-in-Own.new.self.keys c.self.inside.neighbors.entries c.self.inside.routes c.entries_stay_sorted.ensures c.self.invariant.sorted (ap (λ l. objects_in c.self.inside.numbered l c.self.inside.neighbors.entries c.self.inside.routes) c.remove-in-Own.ensures.keys ∙ take-own c.self.inside.numbered c.self.inside.own.keys c.self.inside.neighbors.entries c.self.inside.routes c.in-Own.ip) c.self.invariant.with_ids
+invariant_of-self-in-Own c = keeps (objects_in c.self.inside.numbered c.self.inside.own.keys c.self.inside.neighbors.entries c.self.inside.routes) 0 (call.Remove (entry.Own c.in-Own.vr c.in-Own.ip)) c.self.inside.numbered c.remove-in-Own.new.self.keys c.self.inside.neighbors.entries c.self.inside.routes c.entries_stay_sorted.ensures c.self.invariant.sorted (ap (λ l. objects_in c.self.inside.numbered l c.self.inside.neighbors.entries c.self.inside.routes) c.remove-in-Own.ensures.keys ∙ take-own c.self.inside.numbered c.self.inside.own.keys c.self.inside.neighbors.entries c.self.inside.routes c.in-Own.vr c.in-Own.ip) c.self.invariant.with_ids
 
 pub returns-in-Own : goal.returns-in-Own
 returns-in-Own c = rw (c.in-Own.is, ← c.self.view_is) (record {
-  removed = ap (λ l. objects_in c.self.inside.numbered l c.self.inside.neighbors.entries c.self.inside.routes) c.remove-in-Own.ensures.keys ∙ take-own c.self.inside.numbered c.self.inside.own.keys c.self.inside.neighbors.entries c.self.inside.routes c.in-Own.ip;
-  old = c.own_if.ensures ∙ ap (λ b. cond b (Some (body.OwnAddress c.in-Own.ip)) None) c.remove-in-Own.ensures.test ∙ sym (at-own c.self.inside.numbered c.self.inside.own.keys c.self.inside.neighbors.entries c.self.inside.routes c.in-Own.ip);
+  removed = ap (λ l. objects_in c.self.inside.numbered l c.self.inside.neighbors.entries c.self.inside.routes) c.remove-in-Own.ensures.keys ∙ take-own c.self.inside.numbered c.self.inside.own.keys c.self.inside.neighbors.entries c.self.inside.routes c.in-Own.vr c.in-Own.ip;
+  old = c.own_if.ensures ∙ ap (λ b. cond b (Some (body.OwnAddress c.in-Own.vr c.in-Own.ip)) None) c.remove-in-Own.ensures.test ∙ sym (at-own c.self.inside.numbered c.self.inside.own.keys c.self.inside.neighbors.entries c.self.inside.routes c.in-Own.vr c.in-Own.ip);
 })
 
 pub invariant_of-self-in-Neigh : goal.invariant_of-self-in-Neigh
@@ -34,10 +34,10 @@ returns-in-Neigh c = rw (c.in-Neigh.is, ← c.self.view_is) (record {
 })
 
 pub invariant_of-self-in-Route : goal.invariant_of-self-in-Route
-invariant_of-self-in-Route c = keeps (objects_in c.self.inside.numbered c.self.inside.own.keys c.self.inside.neighbors.entries c.self.inside.routes) 0 (call.Remove (entry.Route c.in-Route.prefix)) c.self.inside.numbered c.self.inside.own.keys c.self.inside.neighbors.entries c.remove-in-Route.new.self c.entries_stay_sorted.ensures c.self.invariant.sorted (ap (λ l. objects_in c.self.inside.numbered c.self.inside.own.keys c.self.inside.neighbors.entries l) c.remove-in-Route.ensures.entries ∙ take-route c.self.inside.numbered c.self.inside.own.keys c.self.inside.neighbors.entries c.self.inside.routes c.in-Route.prefix) c.self.invariant.with_ids
+invariant_of-self-in-Route c = keeps (objects_in c.self.inside.numbered c.self.inside.own.keys c.self.inside.neighbors.entries c.self.inside.routes) 0 (call.Remove (entry.Route c.in-Route.vr c.in-Route.prefix)) c.self.inside.numbered c.self.inside.own.keys c.self.inside.neighbors.entries c.remove-to.new.self c.entries_stay_sorted.ensures c.self.invariant.sorted (ap (λ l. objects_in c.self.inside.numbered c.self.inside.own.keys c.self.inside.neighbors.entries l) c.remove-to.ensures.entries ∙ take-route c.self.inside.numbered c.self.inside.own.keys c.self.inside.neighbors.entries c.self.inside.routes c.in-Route.vr c.in-Route.prefix) c.self.invariant.with_ids
 
 pub returns-in-Route : goal.returns-in-Route
 returns-in-Route c = rw (c.in-Route.is, ← c.self.view_is) (record {
-  removed = ap (λ l. objects_in c.self.inside.numbered c.self.inside.own.keys c.self.inside.neighbors.entries l) c.remove-in-Route.ensures.entries ∙ take-route c.self.inside.numbered c.self.inside.own.keys c.self.inside.neighbors.entries c.self.inside.routes c.in-Route.prefix;
-  old = c.route_if.ensures ∙ ap (option_map (body.Route c.in-Route.prefix)) c.remove-in-Route.ensures.value ∙ sym (at-route c.self.inside.numbered c.self.inside.own.keys c.self.inside.neighbors.entries c.self.inside.routes c.in-Route.prefix);
+  removed = ap (λ l. objects_in c.self.inside.numbered c.self.inside.own.keys c.self.inside.neighbors.entries l) c.remove-to.ensures.entries ∙ take-route c.self.inside.numbered c.self.inside.own.keys c.self.inside.neighbors.entries c.self.inside.routes c.in-Route.vr c.in-Route.prefix;
+  old = c.route_if.ensures ∙ ap (option_map (body.Route c.in-Route.vr c.in-Route.prefix)) c.remove-to.ensures.value ∙ sym (at-route c.self.inside.numbered c.self.inside.own.keys c.self.inside.neighbors.entries c.self.inside.routes c.in-Route.vr c.in-Route.prefix);
 })

@@ -18,10 +18,10 @@ pub returns-in-Neigh : goal.returns-in-Neigh
 returns-in-Neigh c = rw (c.in-Neigh.is, ← c.self.view_is) (ap (λ l. objects_in c.self.inside.numbered c.self.inside.own.keys l c.self.inside.routes) c.set_mac.ensures ∙ set-mac c.self.inside.numbered c.self.inside.own.keys c.self.inside.neighbors.entries c.self.inside.routes c.self.invariant.sorted c.in-Neigh.rif c.in-Neigh.ip c.args.attr.now)
 
 pub invariant_of-self-in-Route : goal.invariant_of-self-in-Route
-invariant_of-self-in-Route c = keeps (objects_in c.self.inside.numbered c.self.inside.own.keys c.self.inside.neighbors.entries c.self.inside.routes) 0 (call.Set (entry.Route c.in-Route.prefix) c.args.attr.now) c.self.inside.numbered c.self.inside.own.keys c.self.inside.neighbors.entries c.set_target.new.routes c.entries_stay_sorted.ensures c.self.invariant.sorted (ap (λ l. objects_in c.self.inside.numbered c.self.inside.own.keys c.self.inside.neighbors.entries l) c.set_target.ensures ∙ set-target c.self.inside.numbered c.self.inside.own.keys c.self.inside.neighbors.entries c.self.inside.routes c.self.invariant.sorted c.in-Route.prefix c.args.attr.now) c.self.invariant.with_ids
+invariant_of-self-in-Route c = keeps (objects_in c.self.inside.numbered c.self.inside.own.keys c.self.inside.neighbors.entries c.self.inside.routes) 0 (call.Set (entry.Route c.in-Route.vr c.in-Route.prefix) c.args.attr.now) c.self.inside.numbered c.self.inside.own.keys c.self.inside.neighbors.entries c.set_target.new.routes c.entries_stay_sorted.ensures c.self.invariant.sorted (ap (λ l. objects_in c.self.inside.numbered c.self.inside.own.keys c.self.inside.neighbors.entries l) c.set_target.ensures ∙ set-target c.self.inside.numbered c.self.inside.own.keys c.self.inside.neighbors.entries c.self.inside.routes c.self.invariant.sorted c.in-Route.vr c.in-Route.prefix c.args.attr.now) c.self.invariant.with_ids
 
 pub returns-in-Route : goal.returns-in-Route
-returns-in-Route c = rw (c.in-Route.is, ← c.self.view_is) (ap (λ l. objects_in c.self.inside.numbered c.self.inside.own.keys c.self.inside.neighbors.entries l) c.set_target.ensures ∙ set-target c.self.inside.numbered c.self.inside.own.keys c.self.inside.neighbors.entries c.self.inside.routes c.self.invariant.sorted c.in-Route.prefix c.args.attr.now)
+returns-in-Route c = rw (c.in-Route.is, ← c.self.view_is) (ap (λ l. objects_in c.self.inside.numbered c.self.inside.own.keys c.self.inside.neighbors.entries l) c.set_target.ensures ∙ set-target c.self.inside.numbered c.self.inside.own.keys c.self.inside.neighbors.entries c.self.inside.routes c.self.invariant.sorted c.in-Route.vr c.in-Route.prefix c.args.attr.now)
 
 pub returns-in-Own : goal.returns-in-Own
-returns-in-Own c = rw (c.in-Own.is, ← c.self.view_is) (set-own c.self.inside.numbered c.self.inside.own.keys c.self.inside.neighbors.entries c.self.inside.routes c.self.invariant.sorted _ c.args.attr.now)
+returns-in-Own c = rw (c.in-Own.is, ← c.self.view_is) (set-own c.self.inside.numbered c.self.inside.own.keys c.self.inside.neighbors.entries c.self.inside.routes c.self.invariant.sorted _ _ c.args.attr.now)

@@ -1,4 +1,4 @@
-use Rattle.sai_chip.proofs.Tallies.{less, less_none, with_kinds, with_references, with_lanes, with_vlans, with_bridge_ports, with_vlan_members, with_rifs, with_next_hops, with_group_members}
+use Rattle.sai_chip.proofs.Tallies.{less, less_none, with_kinds, with_references, with_lanes, with_vlans, with_routers, with_bridge_ports, with_vlan_members, with_rifs, with_next_hops, with_group_members}
 use Rattle.sai_chip.proofs.counts.Counts.lower.Goals as goal
 
 pub returns-in-Of : goal.returns-in-Of
@@ -12,6 +12,9 @@ returns-in-Lane c = rw (c.in-Lane.is, ← c.self.view_is) (with_lanes less less_
 
 pub returns-in-Vlan : goal.returns-in-Vlan
 returns-in-Vlan c = rw (c.in-Vlan.is, ← c.self.view_is) (with_vlans less less_none _ c.in-Vlan.vlan c.lower-in-Vlan.new.counts c.lower-in-Vlan.ensures)
+
+pub returns-in-VirtualRouter : goal.returns-in-VirtualRouter
+returns-in-VirtualRouter c = rw (c.in-VirtualRouter.is, ← c.self.view_is) (with_routers less less_none _ c.in-VirtualRouter.label c.lower-in-VirtualRouter.new.counts c.lower-in-VirtualRouter.ensures)
 
 pub returns-in-BridgePort : goal.returns-in-BridgePort
 returns-in-BridgePort c = rw (c.in-BridgePort.is, ← c.self.view_is) (with_bridge_ports less less_none _ c.in-BridgePort.port c.lower-in-BridgePort.new.counts c.lower-in-BridgePort.ensures)

@@ -1,5 +1,5 @@
 use Rattle.std.proofs.lemmas.Result.{on_ok_weaker}
-use Rattle.sai_chip.proofs.Tallies.{more, more_none, with_kinds, with_references, with_lanes, with_vlans, with_bridge_ports, with_vlan_members, with_rifs, with_next_hops, with_group_members}
+use Rattle.sai_chip.proofs.Tallies.{more, more_none, with_kinds, with_references, with_lanes, with_vlans, with_routers, with_bridge_ports, with_vlan_members, with_rifs, with_next_hops, with_group_members}
 use Rattle.sai_chip.proofs.counts.Counts.raise.Goals as goal
 
 pub returns-in-Of-clause-ok : goal.returns-in-Of-clause-ok
@@ -13,6 +13,9 @@ returns-in-Lane-clause-ok c = rw (c.in-Lane.is, ← c.self.view_is) (on_ok_weake
 
 pub returns-in-Vlan-clause-ok : goal.returns-in-Vlan-clause-ok
 returns-in-Vlan-clause-ok c = rw (c.in-Vlan.is, ← c.self.view_is) (on_ok_weaker c.raise-in-Vlan.result (λ h. with_vlans more more_none _ c.in-Vlan.vlan c.raise-in-Vlan.new.counts h) c.raise-in-Vlan.ensures.ok)
+
+pub returns-in-VirtualRouter-clause-ok : goal.returns-in-VirtualRouter-clause-ok
+returns-in-VirtualRouter-clause-ok c = rw (c.in-VirtualRouter.is, ← c.self.view_is) (on_ok_weaker c.raise-in-VirtualRouter.result (λ h. with_routers more more_none _ c.in-VirtualRouter.label c.raise-in-VirtualRouter.new.counts h) c.raise-in-VirtualRouter.ensures.ok)
 
 pub returns-in-BridgePort-clause-ok : goal.returns-in-BridgePort-clause-ok
 returns-in-BridgePort-clause-ok c = rw (c.in-BridgePort.is, ← c.self.view_is) (on_ok_weaker c.raise-in-BridgePort.result (λ h. with_bridge_ports more more_none _ c.in-BridgePort.port c.raise-in-BridgePort.new.counts h) c.raise-in-BridgePort.ensures.ok)

@@ -1,0 +1,12 @@
+//! The image of the rows: the rows of all tables in JSON.
+#![tactic(auto)]
+
+mod fault;
+mod loaded;
+mod saved;
+mod texts;
+
+pub use fault::ImageFault;
+pub use loaded::load;
+pub use saved::save;
+pub use texts::{key_in_word, read_texts};

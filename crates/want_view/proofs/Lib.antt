@@ -1,0 +1,4 @@
+mod Fixed
+mod Found
+mod Among
+mod Walked
