@@ -9,12 +9,12 @@ use sai_chip::SimChip;
 use sai_types::{Caps, Chip, Object, Rid};
 use std::alloc::Global;
 use std::marker::Model;
-use switch_model::MarkEvent;
+use switch_model::{MarkEvent, Waits};
 use swss_types::OutOfMemory;
 use table_schema::{PortPlan, Sent, Write};
 
-/// How many objects of each kind the chip has room for.
-const ROOM: Caps = Caps([
+/// How many objects of each kind a chip has room for, where a case says nothing else.
+pub const ROOM: Caps = Caps([
     256, 4094, 256, 256, 16_384, 1024, 2048, 16_384, 16_384, 512, 16_384, 65_536,
 ]);
 
@@ -40,13 +40,13 @@ impl Model for Bench {
 }
 
 impl Bench {
-    /// A new core over an empty chip.
-    pub fn new(alloc: Global, plan: PortPlan) -> Bench {
+    /// A new core over an empty chip with this room.
+    pub fn new(alloc: Global, plan: PortPlan, room: Caps) -> Bench {
         // It says that the plan is one.
         let _ports = plan.len();
         Bench {
-            core: Core::new(alloc, plan, ROOM, PLACES),
-            chip: SimChip::new(alloc, ROOM, Vec::new(alloc)),
+            core: Core::new(alloc, plan, room, PLACES),
+            chip: SimChip::new(alloc, room, Vec::new(alloc)),
         }
     }
 
@@ -87,12 +87,17 @@ impl Bench {
         self.core.restart(self.chip.effects())
     }
 
-    /// How many keys wait by the last mark. None where that is not a mark of a settling.
-    pub fn waits(&self) -> Option<usize> {
+    /// The keys that wait by the last mark. None where that is not a mark of a settling.
+    pub fn waits(&self) -> Option<&Waits> {
         match &self.core.log().marks().last()?.event {
-            MarkEvent::Settled { waits, .. } => Some(waits.items().len()),
+            MarkEvent::Settled { waits, .. } => Some(waits),
             _ => None,
         }
+    }
+
+    /// The chip.
+    pub fn chip(&self) -> &SimChip {
+        &self.chip
     }
 
     /// The objects on the chip.

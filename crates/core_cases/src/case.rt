@@ -1,7 +1,9 @@
 // A case, as its lines give it.
+use crate::bench::ROOM;
 use crate::workers::CaseWorkers;
 use anyhow::{Context, Result, bail};
-use part_cases::words::number;
+use part_cases::words::{number, with_room};
+use sai_types::Caps;
 use std::alloc::Global;
 use std::mem::{drop, replace};
 
@@ -14,12 +16,16 @@ pub struct CaseRound {
     pub waits: u64,
     /// How many objects stand.
     pub objects: u64,
+    /// What else is wanted, each as its line.
+    pub facts: Vec<String>,
 }
 
 /// A plan, writes round by round, and workers by which they are run.
 #[derive(Drop)]
 pub struct Case {
     round: CaseRound,
+    /// How many objects of each kind the chip has room for.
+    pub room: Caps,
     /// The lines of the plan.
     pub ports: Vec<String>,
     /// The rounds that ended.
@@ -35,6 +41,7 @@ impl CaseRound {
             writes: Vec::new(alloc),
             waits: 0,
             objects: 0,
+            facts: Vec::new(alloc),
         }
     }
 }
@@ -44,6 +51,7 @@ impl Case {
     pub fn read(alloc: Global, lines: &[String]) -> Result<Case> {
         let mut case = Case {
             round: CaseRound::new(alloc),
+            room: ROOM,
             ports: Vec::new(alloc),
             rounds: Vec::new(alloc),
             workers: Vec::new(alloc),
@@ -66,12 +74,14 @@ impl Case {
     /// Adds a line of these words.
     fn add_words(&mut self, alloc: Global, line: &str, words: &[&str]) -> Result<()> {
         match words {
+            ["room", kind, most] => self.room = with_room(self.room, kind, most)?,
             ["port", name, lanes] => self.ports.push(format!(in alloc; "{name} {lanes}")?)?,
             ["set", _, ..] | ["del", _] => {
                 self.round.writes.push(String::from_str(alloc, line)?)?;
             }
             ["waits", count] => self.round.waits = number(count)?,
             ["objects", count] => self.round.objects = number(count)?,
+            ["waits" | "goes", _, ..] => self.round.facts.push(String::from_str(alloc, line)?)?,
             ["settle"] => self.end_round(alloc)?,
             ["workers", count, order @ ..] => {
                 let workers = CaseWorkers::read(alloc, line, count, order)?;

@@ -3,17 +3,24 @@
 //!
 //! ```text
 //! case NAME                        a case begins; its name is told where it fails
+//! room KIND N                      the chip has room for N objects of this kind
 //! port NAME LANES                  the plan has this port
 //! set KEY F=V ..                   a write: these fields of a row are set
 //! del KEY                          a write: the row is deleted
 //! waits N                          so many keys wait at the end of the round; without such a line none
+//! waits KEY WHY                    this key is one of them, and waits for this reason
 //! objects N                        so many objects stand on the chip then; without such a line none
+//! goes IP WAY                      packets to the address go so then in the default router; `goes IP in NAME WAY`: in the router of
+//!                                  this name
 //! settle                           the round ends here, and what follows is the next; the last one ends with the case
 //! workers N turn STEPS             N workers, one to four, step one after the other, STEPS steps in each round
 //! workers N turn STEPS idle        the same, and in the end each of them is idle before the settling
 //! workers N turn STEPS restart     the same, and in the end the core restarts before the settling
 //! workers N drawn SEED STEPS       STEPS draws in each round, each of which is the next write or the step of a worker
 //! ```
+//!
+//! A KEY is one that the tables read, or `VRF_TABLE:NAME`, or `ROUTE_TABLE:NAME:PREFIX` with the name of a virtual router. KIND, WHY and
+//! WAY are those of cases of the kind `chip`.
 //!
 //! A case is run once without workers: in each round all writes are taken, and
 //! the core settles. Then it is run once for each of its `workers` lines, each time with a new core over an empty chip. In `turn` all

@@ -7,11 +7,14 @@ use crate::words::read_write;
 use crate::workers::{CaseWorkers, Order};
 use anyhow::{Context, Result, bail, ensure};
 use orch_core::{Settled, Step};
+use part_cases::chip::way::other_way;
 use part_cases::draw::Draw;
+use part_cases::words::{typed_key, wait};
 use sai_chip::named;
 use sai_types::Thing;
 use std::alloc::Global;
-use table_schema::PortPlan;
+use switch_model::Wait;
+use table_schema::{Key, PortPlan};
 
 /// Runs a case without workers, and then by each of its workers. It fails where something is found that is not wanted.
 pub fn run_case(alloc: Global, case: &Case) -> Result<()> {
@@ -27,7 +30,7 @@ pub fn run_case(alloc: Global, case: &Case) -> Result<()> {
 /// Runs a case on a new core and chip. It tells what stands at the end of each round.
 fn run(alloc: Global, case: &Case, workers: &CaseWorkers) -> Result<Vec<Vec<Thing>>> {
     let plan = plan_of(alloc, case.ports.as_slice())?;
-    let mut bench = Bench::new(alloc, plan);
+    let mut bench = Bench::new(alloc, plan, case.room);
     let ends = run_rounds(alloc, &mut bench, case.rounds.as_slice(), workers);
     bench.end();
     ends
@@ -157,16 +160,25 @@ fn step(bench: &mut Bench, worker: u32) -> Result<Step>
     }
 }
 
-/// Settles, and looks at how many keys wait and how many objects stand. It tells what stands.
+/// Settles, and looks at what the round is to come to. It tells what stands.
 fn settle(alloc: Global, bench: &mut Bench, round: &CaseRound) -> Result<Vec<Thing>> {
     let settled = bench.settle()?;
     ensure!(settled == Settled::Settled, "{settled:?}");
-    let waits = bench.waits().context("a mark of a settling")? as u64;
+    let waits = bench.waits().context("a mark of a settling")?;
+    let waits = waits.items().len() as u64;
     ensure!(
         waits == round.waits,
         "{waits} keys wait for {}",
         round.waits
     );
+    for line in round.facts.as_slice() {
+        find(alloc, bench, line.as_str()).context(line.as_str())?;
+    }
+    look(alloc, bench, round)
+}
+
+/// Looks at how many objects stand. It tells what stands.
+fn look(alloc: Global, bench: &Bench, round: &CaseRound) -> Result<Vec<Thing>> {
     let objects = bench.objects(alloc)?;
     let count = objects.len() as u64;
     ensure!(
@@ -175,4 +187,37 @@ fn settle(alloc: Global, bench: &mut Bench, round: &CaseRound) -> Result<Vec<Thi
         round.objects
     );
     Ok(named(alloc, objects.as_slice())?)
+}
+
+/// Finds what a line wants at the end of a round.
+fn find(alloc: Global, bench: &Bench, line: &str) -> Result<()> {
+    let words = line.split_whitespace().collect::<Vec<&str>>(alloc)?;
+    match words.as_slice() {
+        ["waits", name, why @ ..] => {
+            let why = wait(alloc, why)?;
+            find_wait(bench, &typed_key(alloc, name)?, &why)
+        }
+        ["goes", way @ ..] => find_way(alloc, bench, way),
+        _ => bail!("no line of a case"),
+    }
+}
+
+/// Finds that a key waits for this reason.
+fn find_wait(bench: &Bench, key: &Key, why: &Wait) -> Result<()> {
+    let waits = bench.waits().context("a mark of a settling")?;
+    for (waiting, reason, _) in waits.items() {
+        if waiting == key {
+            ensure!(reason == why, "{reason:?}");
+            return Ok(());
+        }
+    }
+    bail!("it doesn't wait")
+}
+
+/// Finds that packets go as the words say.
+fn find_way(alloc: Global, bench: &Bench, words: &[&str]) -> Result<()> {
+    match other_way(alloc, bench.chip(), words)? {
+        Some(found) => bail!("{}", found.as_str()),
+        None => Ok(()),
+    }
 }

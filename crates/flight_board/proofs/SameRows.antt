@@ -70,6 +70,7 @@ port_row_exact p q h =
 pub row_exact : (a b : Row) → row_eq.ghosts.eq a b ≡ true → a ≡ b
 row_exact (row.Port p) (row.Port q) h = ap row.Port (port_row_exact p q h)
 row_exact row.Vlan row.Vlan h = refl
+row_exact row.Vrf row.Vrf h = refl
 row_exact (row.Member a) (row.Member b) h = ap row.Member (tagging_exact a b h)
 row_exact row.Intf row.Intf h = refl
 row_exact row.Addr row.Addr h = refl

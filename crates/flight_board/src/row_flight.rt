@@ -28,7 +28,7 @@ pub enum RowFlight {
     Port(PortFlight, Option<Row>),
     /// Of a VLAN, or of a member of one.
     Vlan(VlanFlight, Option<Row>),
-    /// Of an interface, or of an address of one.
+    /// Of an interface, of an address of one, or of a virtual router.
     Intf(IntfFlight, Option<Row>),
     /// Of a neighbour.
     Neigh(NeighFlight, Option<Row>),
@@ -73,7 +73,7 @@ impl RowFlight {
                     Err(wait) => Ok(Err(wait)),
                 }
             }
-            Key::Intf(_) | Key::Addr(..) => {
+            Key::Intf(_) | Key::Addr(..) | Key::Vrf(_) => {
                 let given = new.as_ref();
                 match IntfFlight::start(plan, reg, room, used, worker, key, old, given)? {
                     Ok(flight) => Ok(Ok(RowFlight::Intf(flight, new.take()))),
@@ -87,7 +87,7 @@ impl RowFlight {
                     Err(wait) => Ok(Err(wait)),
                 }
             }
-            Key::Route(_) => {
+            Key::Route(..) => {
                 let new = new.take();
                 match RouteFlight::start(alloc, plan, reg, room, used, worker, key, old, new)? {
                     Ok(flight) => Ok(Ok(RowFlight::Route(flight))),

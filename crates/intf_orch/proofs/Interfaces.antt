@@ -1,5 +1,5 @@
 -- the start of an interface's operation
-use Rattle.std.proofs.Common.{◌≡◌, ℕ, true, false, List, [], ◌∷◌, Option, Some, None, is_some, Result, Ok, OnOk, OnErr, IfErr, if◌then◌else◌, refl, sym, ap, ◌∙◌}
+use Rattle.std.proofs.Common.{◌≡◌, ℕ, true, false, List, [], ◌∷◌, Option, Some, None, Result, Ok, OnOk, OnErr, IfErr, if◌then◌else◌, refl, sym, ap, ◌∙◌}
 use Rattle.std.specs.Result.{result_and}
 use Rattle.swss_types.specs.declared.interface.IfName.{IfName}
 use Rattle.swss_types.specs.declared.vrf.Vrf.TheVariants as vrf
@@ -22,15 +22,14 @@ use Rattle.ref_counts.specs.Room.{Reserves, RoomState}
 use Rattle.switch_machine.specs.Flights.{Fits}
 use Rattle.orch_flight.specs.Needing.{places_for, row_reason}
 use Rattle.orch_flight.specs.Sharing.{MayStart, begun_by}
-use Rattle.orch_flight.specs.Starting.{first_due, leaving}
-use Rattle.orch_flight.proofs.Begins.{begun-removal, names-plain, no_places}
-use Rattle.orch_flight.proofs.Rows.{removal-starts, row-begins, row-starts}
-use Rattle.intf_orch.specs.Interfaces.{coming, rif_going, intf_operation, rif_due, row_where}
+use Rattle.orch_flight.proofs.Begins.{no_places}
+use Rattle.intf_orch.specs.Interfaces.{coming, rif_going, rif_due, row_where}
 use Rattle.intf_orch.specs.declared.stage.RifStage.{RifStage}
 use Rattle.intf_orch.specs.declared.stage.RifStage.TheVariants as rif
 use Rattle.intf_orch.specs.declared.stage.Subject.{Subject}
 use Rattle.intf_orch.specs.declared.stage.Subject.TheVariants as subject
-use Rattle.intf_orch.proofs.Operations.{Starts, operation-plain}
+use Rattle.intf_orch.proofs.Operations.{Starts}
+use Rattle.intf_orch.proofs.Unshared.{removal-started, row-started}
 
 due-comes : (o : Option Base) → make_all (from o (λ b. thing.Rif b vrf.Default ∷ [])) [] ≡ rif_due (coming o)
 due-comes None = refl
@@ -41,12 +40,6 @@ due-goes None = refl
 due-goes (Some b) = refl
 
 module _ (plan : Ports) (n : IfName) where
-  leaves-nothing : (old new : Option Row) → leaving plan (key.Intf n) old new ≡ None
-  leaves-nothing None None = refl
-  leaves-nothing None (Some r) = refl
-  leaves-nothing (Some a) None = refl
-  leaves-nothing (Some a) (Some r) = refl
-
   row-is : (r : Row) → Fits plan (key.Intf n) r → row_where true row.Intf ≡ Some r
   row-is row.Intf fits = refl
   row-is _ fits = elim fits [ ]
@@ -74,25 +67,6 @@ module _ (plan : Ports) (n : IfName) where
   removed-places (Some b) = refl
 
   module _ (names : Names) (room : RoomState) (used : List ℕ) (worker : ℕ) where
-    -- a row that is to be applied, where this is due of its interface's own
-    row-started : (old : Option Row) (r : Row) (stage : RifStage) (need : List ℕ) (names' : Names) (room' : RoomState) (begun : Result (Unit {0}) Wait) (answer : Result Subject Wait)
-        → answer ≡ result_and begun (Ok (subject.Intf n stage))
-        → need ≡ places_for (rif_due stage)
-        → MayStart plan names worker (key.Intf n) old (Some r)
-        → row_where (is_some old) row.Intf ≡ old
-        → (Fits plan (key.Intf n) r → own_changes plan (key.Intf n) old (Some r) ≡ rif_due stage)
-        → OnOk begun (row_reason names room used (base_names n) [] need ≡ None)
-        → OnOk begun (names' ≡ begun_by names worker (key.Intf n) (base_names n) (is_some old) None false)
-        → OnOk begun (Reserves room worker need room')
-        → IfErr begun (λ w. row_reason names room used (base_names n) [] need ≡ Some w)
-        → OnErr begun (names' ≡ names)
-        → OnErr begun (room' ≡ room)
-        → Starts plan names room used worker answer names' room' (key.Intf n) old (Some r)
-    row-started old r stage need names' room' begun answer is needs may there due free begins reserves waits same same_room =
-        row-starts plan names room used worker (key.Intf n) old r (intf_operation worker (is_some old) true) (subject.Intf n stage) names' room' begun answer is
-        (λ none. let fits = may.new_fits r refl none in operation-plain plan names worker (subject.Intf n stage) old (Some r) there (row-is r fits) (sym (due fits)) refl (leaves-nothing old (Some r)))
-        (row-begins plan names room used worker (key.Intf n) old r None need names' room' (Ok begun) refl (λ none. leaves-nothing old (Some r)) (λ none. ap places_for (due (may.new_fits r refl none)) ∙ sym needs) free begins reserves waits same same_room)
-
     pub interface-added : (r : Row) (base : Option Base) (stage : RifStage) (need : List ℕ) (names' : Names) (room' : RoomState) (begun : Result (Unit {0}) Wait) (answer : Result Subject Wait)
         → base ≡ base_of plan n
         → stage ≡ coming base
@@ -107,7 +81,7 @@ module _ (plan : Ports) (n : IfName) where
         → OnErr begun (room' ≡ room)
         → Starts plan names room used worker answer names' room' (key.Intf n) None (Some r)
     interface-added r base stage need names' room' begun answer on comes needs is may =
-        row-started None r stage need names' room' begun answer is (needs ∙ ap (λ s. places_for (rif_due s)) (sym comes)) may refl (λ fits. added-due r fits ∙ ap (λ o. rif_due (coming o)) (sym on) ∙ ap rif_due (sym comes))
+        row-started plan names room used worker (subject.Intf n stage) (λ r. refl) refl None r need names' room' begun answer is (needs ∙ ap (λ s. places_for (rif_due s)) (sym comes)) may refl (row-is r) (λ fits. added-due r fits ∙ ap (λ o. rif_due (coming o)) (sym on) ∙ ap rif_due (sym comes))
 
     pub interface-changed : (a r : Row) (names' : Names) (room' : RoomState) (begun : Result (Unit {0}) Wait) (answer : Result Subject Wait)
         → answer ≡ result_and begun (Ok (subject.Intf n rif.Stays))
@@ -120,7 +94,7 @@ module _ (plan : Ports) (n : IfName) where
         → OnErr begun (room' ≡ room)
         → Starts plan names room used worker answer names' room' (key.Intf n) (Some a) (Some r)
     interface-changed a r names' room' begun answer is may =
-        row-started (Some a) r rif.Stays no_places names' room' begun answer is refl may (row-is a (may.old_fits a refl)) (changed-due a r (may.old_fits a refl))
+        row-started plan names room used worker (subject.Intf n rif.Stays) (λ r. refl) refl (Some a) r no_places names' room' begun answer is refl may (row-is a (may.old_fits a refl)) (row-is r) (changed-due a r (may.old_fits a refl))
 
     pub interface-removed : (a : Row) (base : Option Base) (stage : RifStage) (names' : Names) (begun : Result (Unit {0}) Wait) (answer : Result Subject Wait)
         → base ≡ base_of plan n
@@ -134,8 +108,5 @@ module _ (plan : Ports) (n : IfName) where
         → Starts plan names room used worker answer names' room (key.Intf n) (Some a) None
     interface-removed a base stage names' begun answer on goes is may free begins waits same =
         let fits = may.old_fits a refl in
-        let due = removed-due a fits ∙ ap (λ o. rif_due (rif_going o)) (sym on) in
-        removal-starts plan names room used worker (key.Intf n) (Some a) (intf_operation worker true false) (subject.Intf n stage) names' room begun answer is
-        (operation-plain plan names worker (subject.Intf n stage) (Some a) None (row-is a fits) refl (ap rif_due goes ∙ sym due) refl refl)
-        (begun-removal plan names room used worker (key.Intf n) (Some a) names' (Ok begun) (ap places_for due ∙ removed-places base)
-        (names-plain (changed names (name.Row (key.Intf n)) (registered.begun_to_go worker)) worker (key.Intf n) (first_due plan names (key.Intf n) (Some a) None)) free begins waits same)
+        removal-started plan names room used worker (subject.Intf n stage) (λ r. refl) refl a names' begun answer is (ap (λ s. places_for (rif_due s)) goes ∙ removed-places base) (row-is a fits)
+        (removed-due a fits ∙ ap (λ o. rif_due (rif_going o)) (sym on) ∙ ap rif_due (sym goes)) free begins waits same

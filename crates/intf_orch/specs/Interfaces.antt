@@ -1,4 +1,4 @@
--- The operation of an interface or of an interface's address, as far as it is made. The order of calls is that of SONiC's orchestration agent; own: an interface's address as an object of its own.
+-- The operation of an interface, of an interface's address or of a virtual router, as far as it is made. The order of calls is that of SONiC's orchestration agent; own: an interface's address as an object of its own.
 use Rattle.std.specs.Prelude.{◌≡◌, ◌≤◌, ℕ, Bool, true, false, List, [], ◌∷◌, map, length, Option, Some, None, is_some}
 use Rattle.swss_types.specs.declared.address.Ip.{Ip}
 use Rattle.swss_types.specs.declared.interface.IfName.{IfName}
@@ -37,10 +37,12 @@ use Rattle.intf_orch.specs.declared.stage.RifStage.{RifStage}
 use Rattle.intf_orch.specs.declared.stage.RifStage.TheVariants as rif
 use Rattle.intf_orch.specs.declared.stage.Subject.{Subject}
 use Rattle.intf_orch.specs.declared.stage.Subject.TheVariants as subject
+use Rattle.intf_orch.specs.Routers.{router_due}
 
 abbrev pub IsIntfKey : Key → Type 0
 IsIntfKey (key.Intf n) = Unit {0}
 IsIntfKey (key.Addr n ip len) = Unit {0}
+IsIntfKey (key.Vrf label) = Unit {0}
 IsIntfKey _ = ⊥
 
 -- ---- the operation
@@ -48,11 +50,13 @@ IsIntfKey _ = ⊥
 abbrev pub subject_key : Subject → Key
 subject_key (subject.Intf n stage) = key.Intf n
 subject_key (subject.Addr n ip len stage) = key.Addr n ip len
+subject_key (subject.Vrf label stage) = key.Vrf label
 
 -- the one row that such a key can have
 abbrev pub subject_row : Subject → Row
 subject_row (subject.Intf n stage) = row.Intf
 subject_row (subject.Addr n ip len stage) = row.Addr
+subject_row (subject.Vrf label stage) = row.Vrf
 
 abbrev pub row_where : Bool → Row → Option Row
 row_where true r = Some r
@@ -73,6 +77,7 @@ own_due ip _ = []
 abbrev pub due_of : Subject → List Change
 due_of (subject.Intf n stage) = rif_due stage
 due_of (subject.Addr n ip len stage) = own_due ip stage
+due_of (subject.Vrf label stage) = router_due label stage
 
 -- the own address is taken away with its last row
 abbrev pub retired : Ip → OwnStage → Option Owner
@@ -83,6 +88,7 @@ retired ip _ = None
 abbrev pub retires_of : Subject → Option Owner
 retires_of (subject.Intf n stage) = None
 retires_of (subject.Addr n ip len stage) = retired ip stage
+retires_of (subject.Vrf label stage) = None
 
 abbrev pub intf_operation : ℕ → Bool → Bool → Subject → Operation
 intf_operation worker old new s = record { worker = worker; key = subject_key s; now = row_where old (subject_row s); new = row_where new (subject_row s); due = due_of s; leaves = None; retires = retires_of s }

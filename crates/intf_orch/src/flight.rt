@@ -1,4 +1,4 @@
-// The operation of an interface, or of an interface's address.
+// The operation of an interface, of an interface's address or of a virtual router.
 ghost use Rattle.std.specs.Prelude.{◌≡◌, ◌↔◌, ◌≤◌, [], ◌∷◌, length, is_some, option_map, IfOk, IsSome, IsTrue, OnErr};
 ghost use Rattle.table_schema.specs.Names.{base_names};
 ghost use Rattle.table_schema.specs.Plan.{Ports};
@@ -10,8 +10,9 @@ ghost use Rattle.orch_flight.specs.Starting.{IsStartedBy, answered};
 ghost use Rattle.orch_flight.specs.Taking.{IsTook, MayTake, to_list};
 ghost use Rattle.intf_orch.specs.Interfaces.{IsIntfKey, IsMadeOn, IsRifNext, KnowsRif, MayBuildOwn, MayBuildRif, base_keys, intf_operation, own_after, names_after_own, own_next, rif_names};
 
-use crate::stage::{OwnStage, RifStage, Subject};
-use crate::starting::{start_address, start_interface};
+use crate::router::{next_router, took_router};
+use crate::stage::{OwnStage, RifStage, RouterStage, Subject};
+use crate::starting::{start_address, start_interface, start_router};
 use orch_flight::vid;
 use ref_counts::{Name, Next, Registry, Room};
 use sai_types::{Body, Call, Entry, KindCounts, RifOn, Vid};
@@ -20,8 +21,8 @@ use switch_model::Wait;
 use swss_types::{IfName, Ip, OutOfMemory, Vrf};
 use table_schema::{Key, PortPlan, Row};
 
-/// The operation of an interface, whose router interface is made or removed, or of an interface's address, whose own address
-/// is made with its first row and removed with its last one.
+/// The operation of an interface, whose router interface is made or removed; of an interface's address, whose own address is
+/// made with its first row and removed with its last one; or of a virtual router, which is made or removed.
 #[derive(Debug, Drop)]
 pub struct IntfFlight {
     worker: u32,
@@ -41,8 +42,8 @@ impl Model for IntfFlight {
 }
 
 impl IntfFlight {
-    /// Starts the operation that brings a key of INTF_TABLE from its applied row to its new one, or tells the first reason why
-    /// it has to wait, and changes nothing then. The worker is below 4 and has no operation.
+    /// Starts the operation that brings a key of INTF_TABLE or VRF_TABLE from its applied row to its new one, or tells the
+    /// first reason why it has to wait, and changes nothing then. The worker is below 4 and has no operation.
     pub fn start(
         plan: &PortPlan,
         reg: &mut Registry,
@@ -66,6 +67,10 @@ impl IntfFlight {
             }
             Key::Addr(on, ip, len) => {
                 let begun = start_address(plan, reg, room, used, worker, *on, ip, *len, old, new)?;
+                Ok(IntfFlight::of(worker, old, new, begun))
+            }
+            Key::Vrf(label) => {
+                let begun = start_router(plan, reg, room, used, worker, *label, old, new)?;
                 Ok(IntfFlight::of(worker, old, new, begun))
             }
             _ => unreachable!(),
@@ -100,10 +105,12 @@ impl IntfFlight {
         match &self.subject {
             Subject::Intf(on, stage) => Ok(next_rif(reg, *on, *stage)),
             Subject::Addr(_, ip, _, stage) => Ok(next_own(ip, *stage)),
+            Subject::Vrf(label, stage) => Ok(next_router(reg, *label, *stage)),
         }
     }
 
-    /// The call that was due has taken effect: `made` is the identifier of what it made, where it made a router interface.
+    /// The call that was due has taken effect: `made` is the identifier of what it made, where it made a router interface or
+    /// a virtual router.
     pub fn took(&mut self, made: Option<Vid>, reg: &mut Registry)
         requires { MayTake self.old made reg.old }
         ensures { IsTook self.old made reg.old self.new reg.new }
@@ -114,6 +121,10 @@ impl IntfFlight {
                 *stage = RifStage::Stays;
             }
             Subject::Addr(_, ip, _, stage) => *stage = took_own(self.worker, ip, *stage, reg),
+            Subject::Vrf(label, stage) => {
+                took_router(self.worker, *label, *stage, made, reg);
+                *stage = RouterStage::Stays;
+            }
         }
     }
 
@@ -124,6 +135,7 @@ impl IntfFlight {
         match self.subject {
             Subject::Intf(_, stage) => matches!(stage, RifStage::Stays),
             Subject::Addr(_, _, _, stage) => matches!(stage, OwnStage::Stays | OwnStage::Gone),
+            Subject::Vrf(_, stage) => matches!(stage, RouterStage::Stays),
         }
     }
 }

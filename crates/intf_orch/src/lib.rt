@@ -1,9 +1,11 @@
-//! Brings the rows of interfaces and of their addresses to the chip: the operations of INTF_TABLE.
+//! Brings the rows of interfaces, of their addresses and of virtual routers to the chip: the operations of INTF_TABLE and
+//! VRF_TABLE.
 #![tactic(auto)]
 
 mod address;
 mod flight;
 mod interface;
+mod router;
 mod stage;
 mod starting;
 

@@ -1,10 +1,10 @@
-// What an operation of INTF_TABLE is about, and how far it is.
+// What an operation of INTF_TABLE or VRF_TABLE is about, and how far it is.
 ghost use Rattle.std.specs.Prelude.{◌≡◌};
 ghost use Rattle.orch_flight.specs.Needing.{places_for};
 ghost use Rattle.intf_orch.specs.Interfaces.{coming, rif_going, own_due, own_stage, rif_due};
 
 use sai_types::{Base, KINDS, KindCounts};
-use swss_types::{IfName, Ip};
+use swss_types::{IfName, Ip, VrfName};
 
 /// The row that an operation is about, and what becomes of its object.
 #[derive(Clone, Copy, Debug)]
@@ -13,6 +13,8 @@ pub enum Subject {
     Intf(IfName, RifStage),
     /// The row of an interface's address.
     Addr(IfName, Ip, u8, OwnStage),
+    /// The row of a virtual router.
+    Vrf(VrfName, RouterStage),
 }
 
 /// What becomes of the router interface of an interface.
@@ -37,6 +39,17 @@ pub enum OwnStage {
     Goes,
     /// It was removed, since its last row is to go.
     Gone,
+}
+
+/// What becomes of a virtual router.
+#[derive(Clone, Copy, Debug)]
+pub enum RouterStage {
+    /// It stays as it is, be it there or not.
+    Stays,
+    /// It is still to be made.
+    Comes,
+    /// It is still to be removed.
+    Goes,
 }
 
 /// What becomes of the router interface of an interface that is added.

@@ -1,15 +1,15 @@
-// How an operation of INTF_TABLE starts.
+// How an operation of INTF_TABLE or VRF_TABLE starts.
 ghost use Rattle.std.specs.Prelude.{◌≡◌, is_some, option_map, IfOk, OnErr};
 ghost use Rattle.orch_flight.specs.Sharing.{MayStart};
 ghost use Rattle.orch_flight.specs.Starting.{IsStartedBy, answered};
 ghost use Rattle.intf_orch.specs.Interfaces.{intf_operation};
 
 use crate::stage::Subject;
-use crate::{address, interface};
+use crate::{address, interface, router};
 use ref_counts::{Registry, Room};
 use sai_types::KindCounts;
 use switch_model::Wait;
-use swss_types::{IfName, Ip, OutOfMemory};
+use swss_types::{IfName, Ip, OutOfMemory, VrfName};
 use table_schema::{Key, PortPlan, Row};
 
 /// Starts the operation of an interface.
@@ -60,6 +60,30 @@ pub fn start_address(
             plan, reg, room, used, worker, on, ip, len, old, new,
         ),
         (Some(old), None) => address::remove(plan, reg, room, used, worker, on, ip, len, old),
+        (None, None) => unreachable!(),
+    }
+}
+
+/// Starts the operation of a virtual router.
+pub fn start_router(
+    plan: &PortPlan,
+    reg: &mut Registry,
+    room: &mut Room,
+    used: &KindCounts,
+    worker: u32,
+    label: VrfName,
+    old: Option<&Row>,
+    new: Option<&Row>,
+) -> Result<Result<Subject, Wait>, OutOfMemory>
+    requires may { MayStart plan.now reg.old worker (Key.Vrf label) (option_map (λ r. r.now) old) (option_map (λ r. r.now) new) }
+    ensures started { IfOk result (λ answer. IsStartedBy plan.now reg.old room.old used.now worker (Key.Vrf label) (option_map (λ r. r.now) old.entry) (option_map (λ r. r.now) new.entry) (answered (intf_operation worker (is_some (option_map (λ r. r.now) old.entry)) (is_some (option_map (λ r. r.now) new.entry))) answer) reg.new room.new) }
+    ensures err { OnErr result (reg.new ≡ reg.old) }
+    ensures err_room { OnErr result (room.new ≡ room.old) }
+{
+    match (old, new) {
+        (None, Some(new)) => router::add(plan, reg, room, used, worker, label, new),
+        (Some(old), Some(new)) => router::change(plan, reg, room, used, worker, label, old, new),
+        (Some(old), None) => router::remove(plan, reg, room, used, worker, label, old),
         (None, None) => unreachable!(),
     }
 }

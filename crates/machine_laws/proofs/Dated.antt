@@ -64,15 +64,15 @@ module _ (plan : Ports) (is : IsPlan plan) (workers : ℕ) (capacities : List �
     rounds : Rounds s.log
 
   -- a route of a row that was good once is of a row that was written
-  pub route_dated : (taken : List Sent) (writes : List Write) (v : Vrf) (prefix : Prefix) (goal : Goal) (r : Row) → writes ≡ sent_writes taken → IsGoodOnce plan writes (key.Route prefix) r → IsIn (thing.Route v prefix goal) (own_things plan (key.Route prefix) r) → (n : ℕ) × (row : Row) × (n ≤ length taken) × (good_rows_at plan taken n (key.Route prefix) ≡ Some row) × IsIn (thing.Route v prefix goal) (things_of plan (key.Route prefix) row)
-  route_dated taken writes v prefix goal r same good in_it = let when = logged_once taken writes (key.Route prefix) r same good in (when.0, r, when.1, when.2, (things-split plan (key.Route prefix) r).back (thing.Route v prefix goal) (inl in_it))
+  pub route_dated : (taken : List Sent) (writes : List Write) (v : Vrf) (prefix : Prefix) (goal : Goal) (r : Row) → writes ≡ sent_writes taken → IsGoodOnce plan writes (key.Route v prefix) r → IsIn (thing.Route v prefix goal) (own_things plan (key.Route v prefix) r) → (n : ℕ) × (row : Row) × (n ≤ length taken) × (good_rows_at plan taken n (key.Route v prefix) ≡ Some row) × IsIn (thing.Route v prefix goal) (things_of plan (key.Route v prefix) row)
+  route_dated taken writes v prefix goal r same good in_it = let when = logged_once taken writes (key.Route v prefix) r same good in (when.0, r, when.1, when.2, (things-split plan (key.Route v prefix) r).back (thing.Route v prefix goal) (inl in_it))
 
   -- the routes on the chip are of rows that are applied or to be
   pub routes-now : (c : SwitchState) (taken : List Sent) → IsSafe plan workers capacities c → c.written.taken ≡ sent_writes taken → RoutesAreOfRows plan taken c.objects
   routes-now c taken kept same v prefix goal h =
       let stands = route-stands plan c.machine kept.sound c.made c.objects kept.whole kept.laid v prefix goal h in
       let row = route-row plan is workers capacities c kept v prefix goal stands in
-      route_dated taken c.written.taken v prefix goal row.0 same (kept.good (key.Route prefix) row.0 row.1) row.2
+      route_dated taken c.written.taken v prefix goal row.0 same (kept.good (key.Route v prefix) row.0 row.1) row.2
 
   -- and so they are after a call that was due took effect, whether it was answered so or not
   pub routes-called : (c : SwitchState) (taken : List Sent) (call : Call Rid) → IsSafe plan workers capacities c → IsDueCall workers call c → c.written.taken ≡ sent_writes taken → RoutesAreOfRows plan taken (after_call (c.made + 1) c.objects call)
@@ -84,12 +84,12 @@ module _ (plan : Ports) (is : IsPlan plan) (workers : ℕ) (capacities : List �
       let whole = whole-after_call capacities c.made c.objects call kept.whole (legal-call plan is workers capacities c kept call due) in
       let stands = route-stands plan m sound (made_after c.made call) (after_call (c.made + 1) c.objects call) whole laid v prefix goal h in
       let row = row-of_route plan m sound v prefix goal stands in
-      route_dated taken c.written.taken v prefix goal row.0 same (kept.good (key.Route prefix) row.0 row.1) row.2
+      route_dated taken c.written.taken v prefix goal row.0 same (kept.good (key.Route v prefix) row.0 row.1) row.2
 
   pub later_routes : (taken : List Sent) (sent : Sent) (objects : Objects) → RoutesAreOfRows plan taken objects → RoutesAreOfRows plan (taken ++ sent ∷ []) objects
   later_routes taken sent objects f v prefix goal h =
       let x = f v prefix goal h in
-      (x.0, x.1, (let le = x.2 in omega (arith, le, length-append taken (sent ∷ []))), ap (λ (z : TypedRows). z (key.Route prefix)) (good-front plan taken sent x.0 x.2) ∙ x.3, x.4)
+      (x.0, x.1, (let le = x.2 in omega (arith, le, length-append taken (sent ∷ []))), ap (λ (z : TypedRows). z (key.Route v prefix)) (good-front plan taken sent x.0 x.2) ∙ x.3, x.4)
 
   -- routes that were of rows are so of a log that holds as many writes, over the same effects
   pub same_routes : (taken later : List Sent) (es fs : List (Call Rid)) → later ≡ taken → fs ≡ es → ((j : ℕ) → j ≤ length es → RoutesAreOfRows plan taken (chip_after es j)) → (j : ℕ) → j ≤ length fs → RoutesAreOfRows plan later (chip_after fs j)

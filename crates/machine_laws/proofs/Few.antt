@@ -67,16 +67,17 @@ from_few n (Some x) f few = few x
 
 -- a port is set three times at most, a neighbour brings two things, and each other row one
 abbrev most_own : Key → ℕ
-most_own (key.Route prefix) = 1
+most_own (key.Route v prefix) = 1
 most_own _ = 3
 
 own_few : (plan : Ports) (k : Key) (r : Row) → length (own_things plan k r) ≤ most_own k
 own_few plan (key.Port port) (row.Port r) = from_few 3 (lane_of plan port) (λ lane. thing.Port (record { lanes = r.lanes; speed = r.speed; mtu = r.mtu; up = r.up }) ∷ []) (λ lane. omega arith)
 own_few plan (key.Vlan vlan) row.Vlan = omega arith
+own_few plan (key.Vrf n) row.Vrf = omega arith
 own_few plan (key.Member vlan port) (row.Member tagging) = from_few 3 (lane_of plan port) (λ lane. thing.VlanMember vlan lane tagging ∷ []) (λ lane. omega arith)
 own_few plan (key.Intf n) row.Intf = from_few 3 (base_of plan n) (λ b. thing.Rif b vrf.Default ∷ []) (λ b. omega arith)
 own_few plan (key.Neigh n ip) (row.Neigh mac) = from_few 3 (base_of plan n) (λ b. thing.Neighbor (record { on = b; ip = ip }) mac ∷ thing.NextHop (record { on = b; ip = ip }) ∷ []) (λ b. omega arith)
-own_few plan (key.Route prefix) (row.Route r) = from_few 1 (goal_of plan r) (λ g. thing.Route vrf.Default prefix g ∷ []) (λ g. omega arith)
+own_few plan (key.Route v prefix) (row.Route r) = from_few 1 (goal_of plan r) (λ g. thing.Route v prefix g ∷ []) (λ g. omega arith)
 own_few plan _ _ = omega arith
 
 going_few : (plan : Ports) (k : Key) (r : Row) → length (going plan k r) ≤ most_own k
@@ -106,7 +107,7 @@ own_changes_few plan k (Some a) (Some r) = own_sets_few plan k a r
 
 -- a group with a member for each hop; an own address or a bridge port
 abbrev most_shared : Key → ℕ
-most_shared (key.Route prefix) = 129
+most_shared (key.Route v prefix) = 129
 most_shared _ = 1
 
 -- a row reads
@@ -147,7 +148,7 @@ address_few plan (on.Loopback number) ip p h = only (λ z. length (shared_things
 uses_few : (plan : Ports) (k : Key) (r : Row) (p : Owner) → HasFields plan k r → IsIn p (uses plan k r) → length (shared_things p) ≤ most_shared k
 uses_few plan (key.Member vlan port) (row.Member tagging) p reads h = let x = from_in (lane_of plan port) (λ lane. owner.Bridge lane ∷ []) p h in only (λ z. length (shared_things z) ≤ 1) p (owner.Bridge x.0) (omega arith) x.2
 uses_few plan (key.Addr n ip len) row.Addr p reads h = address_few plan n ip p h
-uses_few plan (key.Route prefix) (row.Route t) p reads h = route_few plan t p (hops-few plan prefix reads.0 t reads.1) h
+uses_few plan (key.Route v prefix) (row.Route t) p reads h = route_few plan t p (hops-few plan v prefix reads.0 t reads.1) h
 uses_few plan _ _ p reads h = elim h [ ]
 
 going_same : (p : Owner) → length (shared_going p) ≡ length (shared_things p)
@@ -167,7 +168,7 @@ shared_few plan k (Some r) p reads h = uses_few plan k r p (reads r refl) h
 -- ---- an operation
 
 total : (k : Key) → most_shared k + most_own k + most_shared k ≤ 259
-total (key.Route prefix) = omega arith
+total (key.Route v prefix) = omega arith
 total _ = omega arith
 
 module _ (plan : Ports) (k : Key) (old new : Option Row) (old_reads : HasReadRow plan k old) (new_reads : HasReadRow plan k new) where

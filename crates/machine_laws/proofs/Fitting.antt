@@ -1,5 +1,5 @@
 -- a good row all of whose names are applied is one of its table
-use Rattle.std.proofs.Common.{◌≡◌, ◌+◌, ◌<◌, ◌≤◌, ◌==◌, ◌&&◌, ◌∷◌, ◌∙◌, ℕ, nat_le, nat_lt, Bool, true, false, cond, List, [], map, length, Option, None, Some, option_map, is_some, Result, Ok, Err, codes, refl, sym, ap, subst, arith}
+use Rattle.std.proofs.Common.{◌≡◌, ◌+◌, ◌<◌, ◌≤◌, ◌==◌, ◌&&◌, ◌∷◌, ◌++◌, ◌∙◌, ℕ, nat_le, nat_lt, Bool, true, false, cond, List, [], map, length, Option, None, Some, option_map, is_some, Result, Ok, Err, codes, refl, sym, ap, subst, arith}
 use Rattle.std.proofs.lemmas.Bool.{eqb-true, and_parts}
 use Rattle.std.proofs.lemmas.List.Splits.{length-slice_split}
 use Rattle.std.specs.List.{AllByRecursion}
@@ -11,6 +11,8 @@ use Rattle.swss_types.specs.Tagging.{tagging_of}
 use Rattle.swss_types.specs.declared.address.Ip.{Ip}
 use Rattle.swss_types.specs.declared.address.Prefix.{Prefix}
 use Rattle.swss_types.specs.declared.tagging.Tagging.{Tagging}
+use Rattle.swss_types.specs.declared.vrf.Vrf.{Vrf}
+use Rattle.swss_types.specs.declared.vrf.Vrf.TheVariants as vrf
 use Rattle.swss_types.specs.declared.interface.IfName.{IfName}
 use Rattle.swss_types.specs.declared.interface.IfName.TheVariants as name
 use Rattle.swss_types.proofs.Most.{most_by_test}
@@ -19,7 +21,7 @@ use Rattle.table_schema.specs.Broken.{and_then, bad}
 use Rattle.table_schema.specs.Fields.{Pairs, value_of}
 use Rattle.table_schema.specs.Hop.{put_row_hop, row_hop_cmp}
 use Rattle.table_schema.specs.KeyText.{on_switch}
-use Rattle.table_schema.specs.Names.{base_names, names_of, route_names}
+use Rattle.table_schema.specs.Names.{base_names, names_of, route_names, router_names}
 use Rattle.table_schema.specs.Plan.{Ports, lanes_in_plan}
 use Rattle.table_schema.specs.RouteRules.{drops_of, field_filled, route_hops_of, hop_at, hop_of_texts, hop_or_why, hops_of_texts, hops_with, is_zero, route_row_of, route_target, target_of_hops}
 use Rattle.table_schema.specs.Rules.{number_or, other_row, port_lanes, port_row_of, port_row_with, row_of, tagged_row, tagging_row, up_of}
@@ -225,9 +227,9 @@ row_target : (t u : RouteRow) → row.Route t ≡ row.Route u → t ≡ u
 row_target t u h = cc
 
 -- a route that reads has at most as many hops as a route may have
-pub hops-few : (plan : Ports) (prefix : Prefix) (o : Option Pairs) (t : RouteRow) → good_row plan (key.Route prefix) o ≡ Some (row.Route t) → hop_count t ≤ 128
-hops-few plan prefix None t h = absurd cc
-hops-few plan prefix (Some fields) t h = let x = route_ok fields (row.Route t) (row_read_ok (row_of plan (key.Route prefix) fields) (row.Route t) h) in by x.0 (row_target t x.0 x.1) x.2
+pub hops-few : (plan : Ports) (v : Vrf) (prefix : Prefix) (o : Option Pairs) (t : RouteRow) → good_row plan (key.Route v prefix) o ≡ Some (row.Route t) → hop_count t ≤ 128
+hops-few plan v prefix None t h = absurd cc
+hops-few plan v prefix (Some fields) t h = let x = route_ok fields (row.Route t) (row_read_ok (row_of plan (key.Route v prefix) fields) (row.Route t) h) in by x.0 (row_target t x.0 x.1) x.2
   where
     by : (u : RouteRow) → t ≡ u → IsTarget u → hop_count t ≤ 128
     by u same (IsDrop is) = let none = ap hop_count (same ∙ is) in omega (arith, none)
@@ -299,9 +301,15 @@ module _ (plan : Ports) (applied : TypedRows) (fit : (q : Key) (x : Row) → app
   route_goal t (IsDrop is) h = (goal.Drop, ap (goal_of plan) is)
   route_goal t (Goes out are is) h = let g = target_goal out are (subst (λ z. have_rows applied (route_names z) ≡ true) is h) in (g.0, ap (goal_of plan) is ∙ g.1)
 
+  -- the names behind that of the router
+  behind_router : (v : Vrf) (names : List Key) → have_rows applied (router_names v ++ names) ≡ true → have_rows applied names ≡ true
+  behind_router vrf.Default names h = h
+  behind_router (vrf.Named n) names h = (and_parts (is_some (applied (key.Vrf n))) (have_rows applied names) h).1
+
   fits_by : (k : Key) (fields : Pairs) (r : Row) → IsOnSwitch k → row_of plan k fields ≡ Ok r → have_rows applied (names_of k r) ≡ true → Fits plan k r
   fits_by (key.Port port) fields r on h names = let x = port_ok plan port fields r h in subst (Fits plan (key.Port port)) (sym x.1) x.2
   fits_by (key.Vlan vlan) fields r on h names = subst (Fits plan (key.Vlan vlan)) (same_okay row.Vlan r h) tt
+  fits_by (key.Vrf n) fields r on h names = subst (Fits plan (key.Vrf n)) (same_okay row.Vrf r h) tt
   fits_by (key.Member vlan port) fields r on h names =
       let x = tagging_ok (value_of (codes "tagging_mode") fields) r h in
       let one = and_parts (is_some (applied (key.Vlan vlan))) (is_some (applied (key.Port port)) && true) names in
@@ -312,9 +320,9 @@ module _ (plan : Ports) (applied : TypedRows) (fit : (q : Key) (x : Row) → app
   fits_by (key.Neigh n ip) fields r on h names =
       let x = lladdr_row-is (value_of (codes "neigh") fields) r h in
       subst (Fits plan (key.Neigh n ip)) (sym x.1) (base_there n on (and_parts (is_some (applied (key.Intf n))) true names).0)
-  fits_by (key.Route prefix) fields r on h names =
+  fits_by (key.Route v prefix) fields r on h names =
       let x = route_ok fields r h in
-      subst (Fits plan (key.Route prefix)) (sym x.1) (on, route_goal x.0 x.2 (subst (λ z. have_rows applied (names_of (key.Route prefix) z) ≡ true) x.1 names))
+      subst (Fits plan (key.Route v prefix)) (sym x.1) (on, route_goal x.0 x.2 (behind_router v (route_names x.0) (subst (λ z. have_rows applied (names_of (key.Route v prefix) z) ≡ true) x.1 names)))
   fits_by (key.Other text) fields r on h names = other_bad (split_once 58 text) r h
 
   pub fits-good : (k : Key) (fields : Pairs) (r : Row) → IsOnSwitch k → good_row plan k (Some fields) ≡ Some r → have_rows applied (names_of k r) ≡ true → Fits plan k r

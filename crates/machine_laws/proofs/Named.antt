@@ -50,16 +50,16 @@ module _ (plan : Ports) (m : Machine) (sound : IsConsistent plan m) (made : ℕ)
   group_named i v p hops g at group =
       let these = among (listed m.stands) objects laid g hops group whole.apart objects (λ x b i. found-in objects x b whole.sorted i) in
       these.is ∙ ap Some (same-hops these.those hops these.rising rising (λ hop h. let x = these.sound hop h in only hop (sound.held (owner.Group hops) (thing.GroupMember hops hop) x refl tt).0) (λ hop h.
-      let x = sound.steady (key.Route p) (owner.Group hops) (thing.Route v p (goal.Group hops)) (thing.GroupMember hops hop) (name.Group hops) (i, at) refl (group_referred v p hops) refl tt (inr (in_members hops hops hop h)) in
+      let x = sound.steady (key.Route v p) (owner.Group hops) (thing.Route v p (goal.Group hops)) (thing.GroupMember hops hop) (name.Group hops) (i, at) refl (group_referred v p hops) refl tt (inr (in_members hops hops hop h)) in
       let has = laid.stand x.0 (thing.GroupMember hops hop) x.1 in
       let object = in-found objects (entry_of x.0.0 has.0) has.0 has.2 in
       these.all object.0 has.0 x.0 hop object.2 x.1 has.1 (same-symm object.0 (entry_of x.0.0 has.0) ∙ object.1)))
     where
       rising : AreRisingHops hops
       rising =
-          let user = sound.used (key.Route p) (owner.Group hops) (thing.Route v p (goal.Group hops)) (name.Group hops) (i, at) refl (group_referred v p hops) refl tt in
-          let row = user_row plan m sound (key.Route p) (owner.Group hops) user in
-          group_rising plan (key.Route p) row.0 (owner.Group hops) hops row.2 refl
+          let user = sound.used (key.Route v p) (owner.Group hops) (thing.Route v p (goal.Group hops)) (name.Group hops) (i, at) refl (group_referred v p hops) refl tt in
+          let row = user_row plan m sound (key.Route v p) (owner.Group hops) user in
+          group_rising plan (key.Route v p) row.0 (owner.Group hops) hops row.2 refl
 
       only : (hop : WHop) → IsIn (thing.GroupMember hops hop) (shared_things (owner.Group hops)) → IsIn hop hops
       only hop (inl e) = absurd cc

@@ -2,7 +2,7 @@
 use Rattle.std.specs.Prelude.{◌≡◌, ◌⊎◌, true, List, [], ◌∷◌, ◌++◌, map, Option, Some, None, IsSome, option_map, if◌then◌else◌}
 use Rattle.std.specs.BTreeMap.{is_at}
 use Rattle.std.specs.List.{AllByRecursion}
-use Rattle.table_schema.specs.Names.{base_names}
+use Rattle.table_schema.specs.Names.{base_names, router_names}
 use Rattle.table_schema.specs.Plan.{IsPlan, Ports, port_named}
 use Rattle.table_schema.specs.declared.key.Key.{Key}
 use Rattle.table_schema.specs.declared.key.Key.TheVariants as key
@@ -61,6 +61,7 @@ member_vid (h ∷ hs) hop (v ∷ vs) = if is_at (whop_cmp h) hop then Some v els
 abbrev pub vid_at : Ports → Names → thing_name.ThingName → Option Vid
 vid_at plan names (thing_name.Port lane) = row_vid names (option_map key.Port (port_named plan lane))
 vid_at plan names (thing_name.Vlan vlan) = row_vid names (Some (key.Vlan vlan))
+vid_at plan names (thing_name.VirtualRouter label) = row_vid names (Some (key.Vrf label))
 vid_at plan names (thing_name.BridgePort lane) = first_of (ids_of names (name.BridgePort lane))
 vid_at plan names (thing_name.VlanMember vlan lane) = row_vid names (option_map (key.Member vlan) (port_named plan lane))
 vid_at plan names (thing_name.Rif base) = row_vid names (option_map key.Intf (interface_on plan base))
@@ -85,15 +86,17 @@ entry_by id (body.Neighbor rif ip mac) = entry.Neigh rif ip
 entry_by id (body.Route vr prefix to) = entry.Route vr prefix
 entry_by id b = entry.Oid id
 
--- of all entries that of a neighbour alone has the identifier of what the thing refers to
-abbrev pub IsEnteredBy : Thing → Type 0
-IsEnteredBy (thing.Neighbor hop mac) = Unit {0}
-IsEnteredBy t = ⊥
+-- of what a thing refers to, that whose identifier its entry has: a neighbour's interface, and the virtual router of an own address or a route
+abbrev pub IsEnteredBy : Thing → thing_name.ThingName → Type 0
+IsEnteredBy (thing.Neighbor hop mac) n = Unit {0}
+IsEnteredBy (thing.Own v ip) n = Unit {0}
+IsEnteredBy (thing.Route v prefix g) (thing_name.VirtualRouter label) = Unit {0}
+IsEnteredBy t n = ⊥
 
 -- a thing that stands, with its entry
 pub record IsEntryOf (at : thing_name.ThingName → Vid → Type 0) (t : Thing) (e : Entry Vid) : Type 0 where
   pub body : Body Vid
-  pub of : IsBody (λ n v. IsEnteredBy t → at n v) t body
+  pub of : IsBody (λ n v. IsEnteredBy t n → at n v) t body
   pub id : Vid
   pub numbered : has_number t ≡ true → at (name_of t) id
   pub is : e ≡ entry_by id body
@@ -152,20 +155,20 @@ referred (key.Member vlan port) new (thing.VlanMember v lane tagging) = name.Row
 referred (key.Intf n) new (thing.Rif b v) = map name.Row (base_names n)
 referred (key.Neigh n ip) new (thing.Neighbor hop mac) = name.Row (key.Intf n) ∷ []
 referred (key.Neigh n ip) new (thing.NextHop hop) = name.Row (key.Intf n) ∷ []
-referred (key.Route prefix) new (thing.Route v p g) = pointed new g
+referred (key.Route v prefix) new (thing.Route w p g) = map name.Row (router_names v) ++ pointed new g
 referred k new t = []
 
--- and those by which it is named itself: a neighbour by its interface; an own address and a route by themselves
+-- and those by which it is named itself: a neighbour by its interface; a route by its virtual router, unless that is the default one, in which own addresses are
 abbrev pub entered : Key → thing_name.ThingName → List Name
 entered (key.Neigh n ip) (thing_name.Neighbor hop) = name.Row (key.Intf n) ∷ []
 entered k (thing_name.BridgePort lane) = name.BridgePort lane ∷ []
 entered k (thing_name.Own v ip) = []
-entered k (thing_name.Route v prefix) = []
+entered k (thing_name.Route v prefix) = map name.Row (router_names v)
 entered k n = name.Row k ∷ []
 
 -- what an attribute that is set refers to: the new target of a route
 abbrev pub set_refers : Key → Option Row → Thing → List Name
-set_refers (key.Route prefix) new (thing.Route v p g) = pointed new g
+set_refers (key.Route v prefix) new (thing.Route w p g) = pointed new g
 set_refers k new u = []
 
 abbrev pub ids_needed : Key → Option Row → Change → List Name

@@ -24,7 +24,7 @@ use Rattle.orch_flight.specs.Operation.{Operation}
 -- for how many identifiers a row's name has places: those of its own objects that have one
 abbrev pub ids_for_row : Key → ℕ
 ids_for_row (key.Addr on ip len) = 0
-ids_for_row (key.Route prefix) = 0
+ids_for_row (key.Route v prefix) = 0
 ids_for_row (key.Intf (on.Loopback number)) = 0
 ids_for_row k = 1
 

@@ -109,7 +109,7 @@ fn ids_for_row(key: &Key) -> u64
     ensures { result ≡ ids_for_row key.now }
 {
     match key {
-        Key::Addr(..) | Key::Route(_) | Key::Intf(IfName::Loopback(_)) => 0,
+        Key::Addr(..) | Key::Route(..) | Key::Intf(IfName::Loopback(_)) => 0,
         _ => 1,
     }
 }

@@ -48,7 +48,7 @@ pub fn shared(
     match (key, row) {
         (Key::Member(_, port), Row::Member(_)) => Ok(bridge_of(plan, *port)),
         (Key::Addr(on, ip, _), Row::Addr) => Ok(own_of(plan, *on, *ip)),
-        (Key::Route(_), Row::Route(RouteRow::Hops(hops))) => group_of(alloc, plan, hops),
+        (Key::Route(..), Row::Route(RouteRow::Hops(hops))) => group_of(alloc, plan, hops),
         _ => Ok(None),
     }
 }

@@ -48,7 +48,7 @@ mod case;
 mod entry;
 mod object;
 mod report;
-mod way;
+pub mod way;
 
 use crate::parted::{Part, parts};
 use crate::tally::Tally;

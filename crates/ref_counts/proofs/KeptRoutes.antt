@@ -6,8 +6,8 @@ use Rattle.std.specs.List.Sorted.{IsStrictlySortedBy}
 use Rattle.std.specs.Map.{keys_of, lookup, remove_entry, set_value}
 use Rattle.std.specs.declared.cmp.Ordering.TheVariants.{Less, Greater}
 use Rattle.std.proofs.lemmas.Option.{none-some}
-use Rattle.swss_types.specs.AddressOrder.{prefix_cmp}
 use Rattle.swss_types.specs.declared.address.Prefix.{Prefix}
+use Rattle.swss_types.specs.declared.vrf.Vrf.{Vrf}
 use Rattle.table_schema.specs.Fields.{HasRisingKeys}
 use Rattle.table_schema.specs.Key.{key_cmp}
 use Rattle.table_schema.specs.declared.key.Key.{Key}
@@ -17,17 +17,18 @@ use Rattle.ref_counts.specs.declared.name.Name.TheVariants as name
 use Rattle.ref_counts.specs.declared.pin.Pin.{Pin}
 use Rattle.ref_counts.specs.declared.places.Places.TheInside.{Inside}
 use Rattle.ref_counts.specs.Kept.{AreReadable, ComesBeforeRoutes, Kept, is_pinned, marked_in, settled, users_in, with_routes}
+use Rattle.ref_counts.specs.Parted.{Destination, destination_cmp, route_key, route_name}
 use Rattle.late_maps.specs.Segments.{renamed}
 use Rattle.ref_counts.specs.Registered.{IsReadable, first_of}
 use Rattle.ref_counts.proofs.Partings.{row_below, turned}
 use Rattle.late_maps.proofs.Segments.{AllAbove, AllApart, AllBelow, StandsIn, StandsIn-above, StandsIn-below, StandsIn-itself, StandsIn-renamed, all-kept, all-named, lookup-before, remove-before, set-before, sorted-all_names, sorted-renamed}
 
 abbrev pub IsNoRoute : Key → Type 0
-IsNoRoute k = (p : Prefix) → k ≡ key.Route p → ⊥
+IsNoRoute k = (v : Vrf) (p : Prefix) → k ≡ key.Route v p → ⊥
 
 -- a readable key that is no route comes before the routes
 pub readable_before : (k : Key) → IsNoRoute k → IsReadable k → ComesBeforeRoutes k
-readable_before (key.Route p) out is = absurd (out p refl)
+readable_before (key.Route v p) out is = absurd (out v p refl)
 readable_before (key.Other text) out is = absurd is
 readable_before k out is = omega arith
 
@@ -35,32 +36,32 @@ before_readable : (k : Key) → ComesBeforeRoutes k → IsReadable k
 before_readable (key.Other text) lt = absurd (omega arith)
 before_readable k lt = tt
 
-no_route_apart : (k : Key) (p : Prefix) → IsNoRoute k → is_at (key_cmp k) (key.Route p) ≡ false
-no_route_apart (key.Route q) p out = absurd (out q refl)
-no_route_apart k p out = refl
+no_route_apart : (k : Key) (d : Destination) → IsNoRoute k → is_at (key_cmp k) (route_key d) ≡ false
+no_route_apart (key.Route v p) d out = absurd (out v p refl)
+no_route_apart k d out = refl
 
-routes_same : (p q : Prefix) → key_cmp (key.Route p) (key.Route q) ≡ prefix_cmp p q
-routes_same p q = refl
+routes_same : (d e : Destination) → key_cmp (route_key d) (route_key e) ≡ destination_cmp d e
+routes_same d e = refl
 
 module _ (p : Inside) (h : AllByRecursion ComesBeforeRoutes (keys_of p.rows)) where
   abbrev the_rows : Kept
   the_rows = p.rows
 
   abbrev the_routes : Kept
-  the_routes = renamed key.Route p.routes
+  the_routes = renamed route_key p.routes
 
   routes_above : (k : Key) → ComesBeforeRoutes k → AllAbove key_cmp k the_routes
-  routes_above k lt = all-named (λ q. key_cmp k q ≡ Less) key.Route (λ r. row_below k (name.Row (key.Route r)) lt) p.routes
+  routes_above k lt = all-named (λ q. key_cmp k q ≡ Less) route_key (λ d. row_below k (route_name d) lt) p.routes
 
-  rows_below : (r : Prefix) → AllBelow key_cmp (key.Route r) the_rows
-  rows_below r = all-kept (λ q. key_cmp (key.Route r) q ≡ Greater) ComesBeforeRoutes (λ q lt. turned (name.Row q) (name.Row (key.Route r)) (row_below q (name.Row (key.Route r)) lt)) the_rows h
+  rows_below : (d : Destination) → AllBelow key_cmp (route_key d) the_rows
+  rows_below d = all-kept (λ q. key_cmp (route_key d) q ≡ Greater) ComesBeforeRoutes (λ q lt. turned (name.Row q) (route_name d) (row_below q (route_name d) lt)) the_rows h
 
   routes_apart : (k : Key) → IsNoRoute k → AllApart key_cmp k the_routes
-  routes_apart k out = all-named (λ q. is_at (key_cmp k) q ≡ false) key.Route (λ r. no_route_apart k r out) p.routes
+  routes_apart k out = all-named (λ q. is_at (key_cmp k) q ≡ false) route_key (λ d. no_route_apart k d out) p.routes
 
   -- a route stands among all keys
-  pub route-stands : (r : Prefix) → StandsIn prefix_cmp r key_cmp (key.Route r) p.routes (with_routes the_rows)
-  route-stands r = StandsIn-below (StandsIn-renamed prefix_cmp key_cmp key.Route routes_same r p.routes) the_rows (rows_below r)
+  pub route-stands : (d : Destination) → StandsIn destination_cmp d key_cmp (route_key d) p.routes (with_routes the_rows)
+  route-stands d = StandsIn-below (StandsIn-renamed destination_cmp key_cmp route_key routes_same d p.routes) the_rows (rows_below d)
 
   -- and so does any other key
   module _ (k : Key) (out : IsNoRoute k) where
@@ -80,10 +81,10 @@ module _ (p : Inside) (h : AllByRecursion ComesBeforeRoutes (keys_of p.rows)) wh
   rows-readable = all-kept IsReadable ComesBeforeRoutes before_readable the_rows h
 
   -- keys in order
-  pub kept-rising : IsStrictlySortedBy key_cmp (keys_of the_rows) → IsStrictlySortedBy prefix_cmp (keys_of p.routes) → HasRisingKeys key_cmp (with_routes the_rows p.routes)
+  pub kept-rising : IsStrictlySortedBy key_cmp (keys_of the_rows) → IsStrictlySortedBy destination_cmp (keys_of p.routes) → HasRisingKeys key_cmp (with_routes the_rows p.routes)
   kept-rising sorted routes_sorted =
       let above = all-kept (λ k. AllAbove key_cmp k the_routes) ComesBeforeRoutes routes_above the_rows h in
-      HasRisingKeys-from_sorted key_cmp (with_routes the_rows p.routes) (sorted-all_names key_cmp the_rows the_routes sorted (sorted-renamed prefix_cmp key_cmp key.Route routes_same p.routes routes_sorted) above)
+      HasRisingKeys-from_sorted key_cmp (with_routes the_rows p.routes) (sorted-all_names key_cmp the_rows the_routes sorted (sorted-renamed destination_cmp key_cmp route_key routes_same p.routes routes_sorted) above)
 
 -- the users of entries are those of the first, and then those of the others
 marked_both : (xs ys : Kept) → marked_in (xs ++ ys) ≡ marked_in xs ++ marked_in ys

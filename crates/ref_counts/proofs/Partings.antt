@@ -11,17 +11,17 @@ use Rattle.std.specs.declared.cmp.Ordering.TheVariants.{Less, Greater}
 use Rattle.std.proofs.lemmas.Map.{keys-set_value}
 use Rattle.sai_types.specs.Hop.{whop_cmp}
 use Rattle.sai_types.specs.declared.weight.WHop.{WHop}
-use Rattle.swss_types.specs.AddressOrder.{prefix_cmp}
 use Rattle.swss_types.specs.declared.address.Ip.{Ip}
 use Rattle.swss_types.specs.declared.address.Prefix.{Prefix}
 use Rattle.swss_types.specs.declared.interface.IfName.{IfName}
+use Rattle.swss_types.specs.declared.vrf.Vrf.{Vrf}
 use Rattle.table_schema.specs.Key.{key_cmp, part_cmp, table_place}
 use Rattle.table_schema.specs.declared.key.Key.{Key}
 use Rattle.table_schema.specs.declared.key.Key.TheVariants as key
 use Rattle.ref_counts.specs.declared.name.Name.{Name}
 use Rattle.ref_counts.specs.declared.name.Name.TheVariants as name
 use Rattle.ref_counts.specs.declared.registrations.Registrations.TheInside.{Inside}
-use Rattle.ref_counts.specs.Parted.{AreParted, IsAmongRows, IsAmongOthers, Neighbor, all_names, table_place_of_name, neighbor_key_cmp, neighbor_name, place_of_groups, place_of_neighbors, place_of_routes, route_name}
+use Rattle.ref_counts.specs.Parted.{AreParted, Destination, IsAmongRows, IsAmongOthers, Neighbor, all_names, table_place_of_name, destination_cmp, neighbor_key_cmp, neighbor_name, place_of_groups, place_of_neighbors, place_of_routes, route_key, route_name}
 use Rattle.late_maps.specs.Segments.{renamed}
 use Rattle.ref_counts.specs.Registered.{Registered}
 use Rattle.ref_counts.specs.Registry.{Names, registered_name_cmp}
@@ -29,12 +29,13 @@ use Rattle.ref_counts.proofs.Changing.{name_total}
 use Rattle.late_maps.proofs.Segments.{AllAbove, AllBelow, StandsIn, StandsIn-above, StandsIn-below, StandsIn-itself, StandsIn-renamed, all-inserted, all-all_names, all-kept, all-named, all-removed, all-renamed, sorted-all_names, sorted-renamed}
 
 -- the keys that stand apart are those of the neighbours, of the routes, and of no table
-pub among_rows : (k : Key) → ((on : IfName) (ip : Ip) → k ≡ key.Neigh on ip → ⊥) → ((p : Prefix) → k ≡ key.Route p → ⊥) → ((text : List ℕ) → k ≡ key.Other text → ⊥) → IsAmongRows k
+pub among_rows : (k : Key) → ((on : IfName) (ip : Ip) → k ≡ key.Neigh on ip → ⊥) → ((v : Vrf) (p : Prefix) → k ≡ key.Route v p → ⊥) → ((text : List ℕ) → k ≡ key.Other text → ⊥) → IsAmongRows k
 among_rows (key.Neigh on ip) neighbor route other = absurd (neighbor on ip refl)
-among_rows (key.Route p) neighbor route other = absurd (route p refl)
+among_rows (key.Route v p) neighbor route other = absurd (route v p refl)
 among_rows (key.Other text) neighbor route other = absurd (other text refl)
 among_rows (key.Port port) neighbor route other = omega arith
 among_rows (key.Vlan vlan) neighbor route other = omega arith
+among_rows (key.Vrf n) neighbor route other = omega arith
 among_rows (key.Member vlan port) neighbor route other = omega arith
 among_rows (key.Intf on) neighbor route other = omega arith
 among_rows (key.Addr on ip len) neighbor route other = omega arith
@@ -48,8 +49,8 @@ rows_same k q = refl
 neighbors_same : (m n : Neighbor) → registered_name_cmp (neighbor_name m) (neighbor_name n) ≡ neighbor_key_cmp m n
 neighbors_same m n = refl
 
-routes_same : (p q : Prefix) → registered_name_cmp (route_name p) (route_name q) ≡ prefix_cmp p q
-routes_same p q = refl
+routes_same : (d e : Destination) → registered_name_cmp (route_name d) (route_name e) ≡ destination_cmp d e
+routes_same d e = refl
 
 groups_same : (g h : List WHop) → registered_name_cmp (name.Group g) (name.Group h) ≡ hops_cmp g h
 groups_same g h = refl
@@ -110,7 +111,7 @@ module _ (r : Inside) (h : AreParted r.rows r.others) where
 
   behind_neighbors_above : (k : Key) → table_place k < place_of_routes → AllAbove registered_name_cmp (name.Row k) behind_neighbors
   behind_neighbors_above k lt =
-      let routes = all-named (IsAbove (name.Row k)) route_name (λ p. row_below k (route_name p) lt) r.routes in
+      let routes = all-named (IsAbove (name.Row k)) route_name (λ d. row_below k (route_name d) lt) r.routes in
       all-all_names (IsAbove (name.Row k)) the_routes behind_routes routes (behind_routes_above k (omega arith))
 
   behind_rows_above : (k : Key) → IsAmongRows k → AllAbove registered_name_cmp (name.Row k) behind_rows
@@ -126,7 +127,7 @@ module _ (r : Inside) (h : AreParted r.rows r.others) where
   neighbors_below n lt = all-named (IsBelow n) neighbor_name (λ a. turned (neighbor_name a) n (row_below (key.Neigh a.0 a.1) n lt)) r.neighbors
 
   routes_below : (n : Name) → place_of_routes < table_place_of_name n → AllBelow registered_name_cmp n the_routes
-  routes_below n lt = all-named (IsBelow n) route_name (λ p. turned (route_name p) n (row_below (key.Route p) n lt)) r.routes
+  routes_below n lt = all-named (IsBelow n) route_name (λ d. turned (route_name d) n (row_below (route_key d) n lt)) r.routes
 
   others_below : (hops : List WHop) → AllBelow registered_name_cmp (name.Group hops) r.others
   others_below hops = all-kept (IsBelow (name.Group hops)) IsAmongOthers (λ m is. turned m (name.Group hops) (group_above m hops is.1)) r.others h.of_others
@@ -145,10 +146,10 @@ module _ (r : Inside) (h : AreParted r.rows r.others) where
   past_neighbors : {K : Type 0} (own : K → K → Ordering) (k : K) (n : Name) (part : List (K × Registered)) (whole : List (K × Registered) → Names) → place_of_neighbors < table_place_of_name n → StandsIn own k registered_name_cmp n part whole → StandsIn own k registered_name_cmp n part (λ l. the_rows ++ (the_neighbors ++ whole l))
   past_neighbors own k n part whole lt s = StandsIn-below (StandsIn-below s the_neighbors (neighbors_below n lt)) the_rows (rows_below n (omega arith))
 
-  pub route-stands : (p : Prefix) → StandsIn prefix_cmp p registered_name_cmp (route_name p) r.routes (λ l. all_names r.rows r.neighbors l r.others r.groups)
-  route-stands p =
-      let own = StandsIn-renamed prefix_cmp registered_name_cmp route_name routes_same p r.routes in
-      past_neighbors _ _ _ _ _ (omega arith) (StandsIn-above own behind_routes (behind_routes_above (key.Route p) (omega arith)))
+  pub route-stands : (d : Destination) → StandsIn destination_cmp d registered_name_cmp (route_name d) r.routes (λ l. all_names r.rows r.neighbors l r.others r.groups)
+  route-stands d =
+      let own = StandsIn-renamed destination_cmp registered_name_cmp route_name routes_same d r.routes in
+      past_neighbors _ _ _ _ _ (omega arith) (StandsIn-above own behind_routes (behind_routes_above (route_key d) (omega arith)))
 
   pub other-stands : (n : Name) → IsAmongOthers n → StandsIn registered_name_cmp n registered_name_cmp n r.others (λ l. all_names r.rows r.neighbors r.routes l r.groups)
   other-stands n is =
@@ -162,14 +163,14 @@ module _ (r : Inside) (h : AreParted r.rows r.others) where
       past_neighbors _ _ _ _ _ (omega arith) (StandsIn-below (StandsIn-below own r.others (others_below hops)) the_routes (routes_below (name.Group hops) (omega arith)))
 
   -- parts in order are one list in order
-  pub all_names-sorted : IsStrictlySortedBy key_cmp (keys_of r.rows) → IsStrictlySortedBy neighbor_key_cmp (keys_of r.neighbors) → IsStrictlySortedBy prefix_cmp (keys_of r.routes) → IsStrictlySortedBy registered_name_cmp (keys_of r.others) → IsStrictlySortedBy hops_cmp (keys_of r.groups) → IsStrictlySortedBy registered_name_cmp (keys_of (the_rows ++ behind_rows))
+  pub all_names-sorted : IsStrictlySortedBy key_cmp (keys_of r.rows) → IsStrictlySortedBy neighbor_key_cmp (keys_of r.neighbors) → IsStrictlySortedBy destination_cmp (keys_of r.routes) → IsStrictlySortedBy registered_name_cmp (keys_of r.others) → IsStrictlySortedBy hops_cmp (keys_of r.groups) → IsStrictlySortedBy registered_name_cmp (keys_of (the_rows ++ behind_rows))
   all_names-sorted rows neighbors routes others groups =
       let above_others = all-kept (λ n. AllAbove registered_name_cmp n the_groups) IsAmongOthers (λ n is. groups_above n is.1) r.others h.of_others in
-      let above_routes = all-named (λ n. AllAbove registered_name_cmp n behind_routes) route_name (λ p. behind_routes_above (key.Route p) (omega arith)) r.routes in
+      let above_routes = all-named (λ n. AllAbove registered_name_cmp n behind_routes) route_name (λ d. behind_routes_above (route_key d) (omega arith)) r.routes in
       let above_neighbors = all-named (λ n. AllAbove registered_name_cmp n behind_neighbors) neighbor_name (λ a. behind_neighbors_above (key.Neigh a.0 a.1) (omega arith)) r.neighbors in
       let above_rows = all-renamed (λ n. AllAbove registered_name_cmp n behind_rows) name.Row IsAmongRows behind_rows_above r.rows h.of_rows in
       let from_others = sorted-all_names registered_name_cmp r.others the_groups others (sorted-renamed hops_cmp registered_name_cmp name.Group groups_same r.groups groups) above_others in
-      let from_routes = sorted-all_names registered_name_cmp the_routes behind_routes (sorted-renamed prefix_cmp registered_name_cmp route_name routes_same r.routes routes) from_others above_routes in
+      let from_routes = sorted-all_names registered_name_cmp the_routes behind_routes (sorted-renamed destination_cmp registered_name_cmp route_name routes_same r.routes routes) from_others above_routes in
       let from_neighbors = sorted-all_names registered_name_cmp the_neighbors behind_neighbors (sorted-renamed neighbor_key_cmp registered_name_cmp neighbor_name neighbors_same r.neighbors neighbors) from_routes above_neighbors in
       sorted-all_names registered_name_cmp the_rows behind_rows (sorted-renamed key_cmp registered_name_cmp name.Row rows_same r.rows rows) from_neighbors above_rows
 

@@ -5,12 +5,10 @@ use Rattle.std.specs.List.{AllByRecursion, list_any}
 use Rattle.std.specs.Map.{lookup}
 use Rattle.std.specs.Option.{is_some}
 use Rattle.late_maps.specs.Segments.{renamed}
-use Rattle.swss_types.specs.declared.address.Prefix.{Prefix}
 use Rattle.table_schema.specs.Key.{key_cmp, table_place}
 use Rattle.table_schema.specs.declared.key.Key.{Key}
-use Rattle.table_schema.specs.declared.key.Key.TheVariants as key
 use Rattle.ref_counts.specs.declared.pin.Pin.{Pin}
-use Rattle.ref_counts.specs.Parted.{place_of_routes}
+use Rattle.ref_counts.specs.Parted.{Destination, place_of_routes, route_key}
 use Rattle.ref_counts.specs.Registered.{IsReadable}
 
 -- keys, each with whether it is a user whatever pins there are: the others are users where no pin is for them
@@ -22,8 +20,8 @@ abbrev pub ComesBeforeRoutes : Key → Type 0
 ComesBeforeRoutes k = table_place k < place_of_routes
 
 -- keys before those of the routes, and then the routes
-abbrev pub with_routes : Kept → List (Prefix × Bool) → Kept
-with_routes rows routes = rows ++ renamed key.Route routes
+abbrev pub with_routes : Kept → List (Destination × Bool) → Kept
+with_routes rows routes = rows ++ renamed route_key routes
 
 abbrev pub marked_in : Kept → List Key
 marked_in [] = []

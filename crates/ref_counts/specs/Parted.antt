@@ -7,11 +7,13 @@ use Rattle.std.specs.Ordering.{ordering_then}
 use Rattle.std.specs.declared.cmp.Ordering.{Ordering}
 use Rattle.late_maps.specs.Segments.{renamed}
 use Rattle.sai_types.specs.declared.weight.WHop.{WHop}
-use Rattle.swss_types.specs.AddressOrder.{ip_cmp}
+use Rattle.swss_types.specs.AddressOrder.{ip_cmp, prefix_cmp}
 use Rattle.swss_types.specs.NameOrder.{name_cmp}
+use Rattle.swss_types.specs.Vrf.{vrf_cmp}
 use Rattle.swss_types.specs.declared.address.Ip.{Ip}
 use Rattle.swss_types.specs.declared.address.Prefix.{Prefix}
 use Rattle.swss_types.specs.declared.interface.IfName.{IfName}
+use Rattle.swss_types.specs.declared.vrf.Vrf.{Vrf}
 use Rattle.table_schema.specs.Key.{table_place}
 use Rattle.table_schema.specs.declared.key.Key.{Key}
 use Rattle.table_schema.specs.declared.key.Key.TheVariants as key
@@ -24,20 +26,20 @@ use Rattle.ref_counts.specs.Registry.{Names}
 
 -- the places of the tables of neighbours and routes among the tables
 abbrev pub place_of_neighbors : ℕ
-place_of_neighbors = 5
+place_of_neighbors = 6
 
 abbrev pub place_of_routes : ℕ
-place_of_routes = 6
+place_of_routes = 7
 
 -- groups come last, behind all tables and all other names
 abbrev pub place_of_groups : ℕ
-place_of_groups = 9
+place_of_groups = 10
 
 -- the place of a name's table, and behind all tables what is no row
 abbrev pub table_place_of_name : Name → ℕ
 table_place_of_name (name.Row k) = table_place k
 table_place_of_name (name.Group hops) = place_of_groups
-table_place_of_name _ = 8
+table_place_of_name _ = 9
 
 -- a neighbour is an address on an interface
 abbrev pub Neighbor : Type 0
@@ -50,8 +52,19 @@ neighbor_name n = name.Row (key.Neigh n.0 n.1)
 abbrev pub neighbor_key_cmp : Neighbor → Neighbor → Ordering
 neighbor_key_cmp m n = ordering_then (name_cmp m.0 n.0) (ip_cmp m.1 n.1)
 
-abbrev pub route_name : Prefix → Name
-route_name p = name.Row (key.Route p)
+-- a route is a prefix in a virtual router
+abbrev pub Destination : Type 0
+Destination = Vrf × Prefix
+
+abbrev pub route_key : Destination → Key
+route_key d = key.Route d.0 d.1
+
+abbrev pub route_name : Destination → Name
+route_name d = name.Row (route_key d)
+
+-- by router, and then by prefix
+abbrev pub destination_cmp : Destination → Destination → Ordering
+destination_cmp d e = ordering_then (vrf_cmp d.0 e.0) (prefix_cmp d.1 e.1)
 
 -- keys before those of the neighbours
 abbrev pub IsAmongRows : Key → Type 0
@@ -62,23 +75,23 @@ abbrev pub IsAmongOthers : Name → Type 0
 IsAmongOthers n = (place_of_routes < table_place_of_name n) × (table_place_of_name n < place_of_groups)
 
 -- the part of a name, and what stands there for it
-abbrev pub IsPart : Part Key Prefix Name (List WHop) → Name → Type 0
+abbrev pub IsPart : Part Key Name (List WHop) → Name → Type 0
 IsPart (part.Row k) n = (n ≡ name.Row k) × IsAmongRows k
 IsPart (part.Neighbor m) n = n ≡ neighbor_name m
-IsPart (part.Route p) n = n ≡ route_name p
+IsPart (part.Route d) n = n ≡ route_name d
 IsPart (part.Other m) n = (n ≡ m) × IsAmongOthers m
 IsPart (part.Group hops) n = n ≡ name.Group hops
 
 -- the same by references
-abbrev pub IsPartOf : Part (Bor Key) (Bor Prefix) (Bor Name) (Bor (List WHop)) → Name → Type 0
+abbrev pub IsPartOf : Part (Bor Key) (Bor Name) (Bor (List WHop)) → Name → Type 0
 IsPartOf (part.Row k) = IsPart (part.Row k.now)
 IsPartOf (part.Neighbor m) = IsPart (part.Neighbor m)
-IsPartOf (part.Route p) = IsPart (part.Route p.now)
+IsPartOf (part.Route d) = IsPart (part.Route d)
 IsPartOf (part.Other m) = IsPart (part.Other m.now)
 IsPartOf (part.Group hops) = IsPart (part.Group hops.now)
 
 -- the five parts, one after another
-abbrev pub all_names : List (Key × Registered) → List (Neighbor × Registered) → List (Prefix × Registered) → Names → List (List WHop × Registered) → Names
+abbrev pub all_names : List (Key × Registered) → List (Neighbor × Registered) → List (Destination × Registered) → Names → List (List WHop × Registered) → Names
 all_names rows neighbors routes others groups = renamed name.Row rows ++ (renamed neighbor_name neighbors ++ (renamed route_name routes ++ (others ++ renamed name.Group groups)))
 
 -- no key stands in another's part

@@ -12,11 +12,12 @@ pub fn copied(key: &Key) -> Key
     match key {
         Key::Port(port) => Key::Port(*port),
         Key::Vlan(vlan) => Key::Vlan(*vlan),
+        Key::Vrf(name) => Key::Vrf(*name),
         Key::Member(vlan, port) => Key::Member(*vlan, *port),
         Key::Intf(on) => Key::Intf(*on),
         Key::Addr(on, ip, len) => Key::Addr(*on, *ip, *len),
         Key::Neigh(on, ip) => Key::Neigh(*on, *ip),
-        Key::Route(prefix) => Key::Route(*prefix),
+        Key::Route(vrf, prefix) => Key::Route(*vrf, *prefix),
         Key::Other(_) => unreachable!(),
     }
 }

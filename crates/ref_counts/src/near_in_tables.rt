@@ -3,11 +3,12 @@ use late_maps::{Near, Place};
 use std::cell::Cell;
 use table_schema::Key;
 
-/// Where keys of the tables of ports, of VLANs, of their members and of others were found last.
+/// Where keys of the tables of ports, of VLANs, of virtual routers, of members and of others were found last.
 #[derive(Drop)]
 pub struct NearInTables {
     ports: Cell<Place>,
     vlans: Cell<Place>,
+    routers: Cell<Place>,
     members: Cell<Place>,
     others: Cell<Place>,
 }
@@ -17,6 +18,7 @@ impl Near<Key> for NearInTables {
         NearInTables {
             ports: Cell::new(Place::first()),
             vlans: Cell::new(Place::first()),
+            routers: Cell::new(Place::first()),
             members: Cell::new(Place::first()),
             others: Cell::new(Place::first()),
         }
@@ -26,6 +28,7 @@ impl Near<Key> for NearInTables {
         match key {
             Key::Port(_) => &self.ports,
             Key::Vlan(_) => &self.vlans,
+            Key::Vrf(_) => &self.routers,
             Key::Member(_, _) => &self.members,
             _ => &self.others,
         }

@@ -3,18 +3,18 @@ ghost use Rattle.ref_counts.specs.Parted.{IsPart, IsPartOf};
 
 use crate::Name;
 use sai_types::Hops;
-use swss_types::{IfName, Ip, Prefix};
+use swss_types::{IfName, Ip, Prefix, Vrf};
 use table_schema::Key;
 
 /// What stands for a name in its part. Names are in order, and so are their parts.
 #[derive(Drop)]
-pub enum Part<R, P, N, G> {
+pub enum Part<R, N, G> {
     /// The key of a row, which comes before the neighbours.
     Row(R),
     /// The interface and the address of a neighbour.
     Neighbor((IfName, Ip)),
-    /// The prefix of a route.
-    Route(P),
+    /// The virtual router and the prefix of a route.
+    Route((Vrf, Prefix)),
     /// A name that comes behind the routes and before the groups.
     Other(N),
     /// The hops of a group.
@@ -23,12 +23,12 @@ pub enum Part<R, P, N, G> {
 
 /// The part of a name.
 #[inline(always)]
-pub fn part_of(name: &Name) -> Part<&Key, &Prefix, &Name, &Hops>
+pub fn part_of(name: &Name) -> Part<&Key, &Name, &Hops>
     ensures { IsPartOf result name.now }
 {
     match name {
         Name::Row(Key::Neigh(on, ip)) => Part::Neighbor((*on, *ip)),
-        Name::Row(Key::Route(prefix)) => Part::Route(prefix),
+        Name::Row(Key::Route(vrf, prefix)) => Part::Route((*vrf, *prefix)),
         Name::Row(Key::Other(_)) => Part::Other(name),
         Name::Row(key) => Part::Row(key),
         Name::Group(hops) => Part::Group(hops),
@@ -38,12 +38,12 @@ pub fn part_of(name: &Name) -> Part<&Key, &Prefix, &Name, &Hops>
 
 /// The part of a name that is handed over.
 #[inline(always)]
-pub fn into_part(name: Name) -> Part<Key, Prefix, Name, Hops>
+pub fn into_part(name: Name) -> Part<Key, Name, Hops>
     ensures { IsPart result name }
 {
     match name {
         Name::Row(Key::Neigh(on, ip)) => Part::Neighbor((on, ip)),
-        Name::Row(Key::Route(prefix)) => Part::Route(prefix),
+        Name::Row(Key::Route(vrf, prefix)) => Part::Route((vrf, prefix)),
         Name::Row(Key::Other(text)) => Part::Other(Name::Row(Key::Other(text))),
         Name::Row(key) => Part::Row(key),
         Name::Group(hops) => Part::Group(hops),

@@ -4,8 +4,8 @@ ghost use Rattle.std.specs.BTreeMap.{insert_entry, is_at};
 ghost use Rattle.std.specs.Map.{lookup, remove_entry, set_value};
 ghost use Rattle.table_schema.specs.Fields.{HasRisingKeys};
 ghost use Rattle.table_schema.specs.Key.{key_cmp};
-ghost use Rattle.table_schema.specs.declared.key.Key.TheVariants as key_of;
 ghost use Rattle.ref_counts.specs.Kept.{users_in};
+ghost use Rattle.ref_counts.specs.Parted.{route_key};
 ghost use Rattle.late_maps.specs.Segments.{renamed};
 ghost use Rattle.ref_counts.specs.Registered.{IsReadable, first_of};
 
@@ -14,15 +14,15 @@ use crate::pin::{Pin, is_pinned_for};
 use late_maps::LateMap;
 use std::alloc::Global;
 use std::marker::Model;
-use swss_types::{OutOfMemory, Prefix};
+use swss_types::{OutOfMemory, Prefix, Vrf};
 use table_schema::Key;
 
 /// Keys, each with whether it is a user whatever pins there are: the others are users where no pin is for them. Most
-/// users are routes: they stand apart, by their prefixes, and mostly come in order.
+/// users are routes: they stand apart, by virtual router and prefix, and mostly come in order.
 #[derive(Drop)]
 pub struct Places {
     rows: LateMap<Key, bool>,
-    routes: LateMap<Prefix, bool>,
+    routes: LateMap<(Vrf, Prefix), bool>,
 }
 
 impl Model for Places {
@@ -53,7 +53,7 @@ impl Places {
         ensures { result ≡ lookup (is_at (key_cmp key.now)) self.now }
     {
         match key {
-            Key::Route(prefix) => self.routes.get(prefix).copied(),
+            Key::Route(vrf, prefix) => self.routes.get(&(*vrf, *prefix)).copied(),
             _ => self.rows.get(key).copied(),
         }
     }
@@ -66,7 +66,7 @@ impl Places {
         ensures err { OnErr result (self.new ≡ self.old) }
     {
         match key {
-            Key::Route(prefix) => Ok(self.routes.insert(prefix, uses)?),
+            Key::Route(vrf, prefix) => Ok(self.routes.insert((vrf, prefix), uses)?),
             _ => Ok(self.rows.insert(key, uses)?),
         }
     }
@@ -76,8 +76,8 @@ impl Places {
         ensures { self.new ≡ set_value (is_at (key_cmp key.now)) self.old uses }
     {
         match key {
-            Key::Route(prefix) => {
-                if let Some(place) = self.routes.get_mut(prefix) {
+            Key::Route(vrf, prefix) => {
+                if let Some(place) = self.routes.get_mut(&(*vrf, *prefix)) {
                     *place = uses;
                 }
             }
@@ -94,8 +94,8 @@ impl Places {
         ensures { self.new ≡ remove_entry (is_at (key_cmp key.now)) self.old }
     {
         match key {
-            Key::Route(prefix) => {
-                self.routes.remove(prefix);
+            Key::Route(vrf, prefix) => {
+                self.routes.remove(&(*vrf, *prefix));
             }
             _ => {
                 self.rows.remove(key);
@@ -118,7 +118,7 @@ impl Places {
     {
         match least_row(&self.rows, pins) {
             Some(key) => Some(copied(key)),
-            None => least_route(&self.routes, pins).map(Key::Route),
+            None => least_route(&self.routes, pins),
         }
     }
 }
@@ -136,12 +136,12 @@ fn least_row<'a>(rows: &'a LateMap<Key, bool>, pins: &[Pin]) -> Option<&'a Key>
 }
 
 /// The least user of the routes.
-fn least_route(routes: &LateMap<Prefix, bool>, pins: &[Pin]) -> Option<Prefix>
-    ensures { option_map key_of.Route result ≡ first_of (users_in (renamed key_of.Route routes.now) pins.now) }
+fn least_route(routes: &LateMap<(Vrf, Prefix), bool>, pins: &[Pin]) -> Option<Key>
+    ensures { result ≡ first_of (users_in (renamed route_key routes.now) pins.now) }
 {
-    for (prefix, uses) in routes.iter() {
-        if *uses || !is_pinned_for(pins, &Key::Route(*prefix)) {
-            return Some(*prefix);
+    for ((vrf, prefix), uses) in routes.iter() {
+        if *uses || !is_pinned_for(pins, &Key::Route(*vrf, *prefix)) {
+            return Some(Key::Route(*vrf, *prefix));
         }
     }
     None

@@ -18,7 +18,7 @@ use sai_types::Hops;
 use std::alloc::Global;
 use std::marker::Model;
 use std::mem::drop;
-use swss_types::{IfName, Ip, OutOfMemory, Prefix};
+use swss_types::{IfName, Ip, OutOfMemory, Prefix, Vrf};
 use table_schema::Key;
 
 /// What is known of the names that are not absent, in order. Most names are routes, neighbours and groups: each kind
@@ -27,7 +27,7 @@ use table_schema::Key;
 pub struct Registrations {
     rows: LateMap<Key, Registration, NearInTables>,
     neighbors: LateMap<(IfName, Ip), Registration>,
-    routes: LateMap<Prefix, Registration>,
+    routes: LateMap<(Vrf, Prefix), Registration>,
     others: LateMap<Name, Registration>,
     groups: LateMap<Hops, Registration>,
 }
@@ -65,7 +65,7 @@ impl Registrations {
         match part_of(name) {
             Part::Row(key) => self.rows.get(key),
             Part::Neighbor(neighbor) => self.neighbors.get(&neighbor),
-            Part::Route(prefix) => self.routes.get(prefix),
+            Part::Route(route) => self.routes.get(&route),
             Part::Other(name) => self.others.get(name),
             Part::Group(hops) => self.groups.get(hops),
         }
@@ -77,7 +77,7 @@ impl Registrations {
     {
         match key {
             Key::Neigh(on, ip) => self.neighbors.get(&(*on, *ip)),
-            Key::Route(prefix) => self.routes.get(prefix),
+            Key::Route(vrf, prefix) => self.routes.get(&(*vrf, *prefix)),
             Key::Other(_) => get_unread(&self.others, key),
             _ => self.rows.get(key),
         }
@@ -94,7 +94,7 @@ impl Registrations {
         match part_of(name) {
             Part::Row(key) => self.row_mut(key),
             Part::Neighbor(neighbor) => self.neighbor_mut(&neighbor),
-            Part::Route(prefix) => self.route_mut(prefix),
+            Part::Route(route) => self.route_mut(&route),
             Part::Other(name) => self.other_mut(name),
             Part::Group(hops) => self.group_mut(hops),
         }
@@ -118,11 +118,11 @@ impl Registrations {
     }
 
     /// What is known of a route, to be changed.
-    fn route_mut(&mut self, prefix: &Prefix) -> Option<&mut Registration>
-        ensures* writes_back { sem 𝓛 (lends_name self.entry (route_name prefix.now) result) }
-        ensures value { option_copied_mut result ≡ registered_at self.old (route_name prefix.now) }
+    fn route_mut(&mut self, route: &(Vrf, Prefix)) -> Option<&mut Registration>
+        ensures* writes_back { sem 𝓛 (lends_name self.entry (route_name route.now) result) }
+        ensures value { option_copied_mut result ≡ registered_at self.old (route_name route.now) }
     {
-        self.routes.get_mut(prefix)
+        self.routes.get_mut(route)
     }
 
     /// What is known of a name behind the routes and before the groups, to be changed.
@@ -156,8 +156,8 @@ impl Registrations {
                 drop(self.neighbors.insert(neighbor, registration)?);
                 Ok(())
             }
-            Part::Route(prefix) => {
-                drop(self.routes.insert(prefix, registration)?);
+            Part::Route(route) => {
+                drop(self.routes.insert(route, registration)?);
                 Ok(())
             }
             Part::Other(name) => {
@@ -179,7 +179,7 @@ impl Registrations {
         match part_of(name) {
             Part::Row(key) => self.rows.remove(key),
             Part::Neighbor(neighbor) => self.neighbors.remove(&neighbor),
-            Part::Route(prefix) => self.routes.remove(prefix),
+            Part::Route(route) => self.routes.remove(&route),
             Part::Other(name) => self.others.remove(name),
             Part::Group(hops) => self.groups.remove(hops),
         }

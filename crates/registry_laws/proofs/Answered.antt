@@ -36,7 +36,6 @@ use Rattle.orch_flight.specs.Taking.{names_after, to_list}
 use Rattle.registry_laws.specs.Answering.{IsOfGroup, MakesRowLive}
 use Rattle.registry_laws.specs.Registers.{Registers, made_live_at}
 use Rattle.registry_laws.proofs.Begun.{untouched_whole}
-use Rattle.registry_laws.proofs.Listing.{not_some}
 use Rattle.registry_laws.proofs.Moved.{gone_moved, row_moved, same_moved, shared_moved}
 
 -- of what is gone nothing more is due
@@ -151,7 +150,7 @@ module _ (plan : Ports) (is : IsPlan plan) (workers : ℕ) (capacities : List �
   made_answered : (t : Thing) (moves : Moves m w f (Make t) cs stands) (made : Option Vid) → (IsOfGroup plan (Make t) → ⊥) → (MakesRowLive (Make t) → (cs ≡ []) × (r : Row) × (f.new ≡ Some r)) → IsStill (names_after names f.key (Make t) made)
   made_answered (thing.Port p) moves made group last = live_row (thing.Port p) moves (to_list made) (λ o shared h. mapped_row plan key.Port (port_named plan _) o shared h) (last tt)
   made_answered (thing.Vlan v) moves made group last = live_row (thing.Vlan v) moves (to_list made) (λ o shared h. some_row plan (key.Vlan v) o shared h) (last tt)
-  made_answered (thing.VirtualRouter label) moves made group last = live_row (thing.VirtualRouter label) moves (to_list made) (λ o shared h. not_some o h) (last tt)
+  made_answered (thing.VirtualRouter label) moves made group last = live_row (thing.VirtualRouter label) moves (to_list made) (λ o shared h. some_row plan (key.Vrf label) o shared h) (last tt)
   made_answered (thing.BridgePort lane) moves made group last = live_shared (thing.BridgePort lane) moves (owner.Bridge lane) (to_list made) tt refl refl
   made_answered (thing.VlanMember v lane x) moves made group last = live_row (thing.VlanMember v lane x) moves (to_list made) (λ o shared h. mapped_row plan (key.Member v) (port_named plan lane) o shared h) (last tt)
   made_answered (thing.Rif b v) moves made group last = live_row (thing.Rif b v) moves (to_list made) (λ o shared h. mapped_row plan key.Intf (interface_on plan b) o shared h) (last tt)
@@ -160,12 +159,12 @@ module _ (plan : Ports) (is : IsPlan plan) (workers : ℕ) (capacities : List �
   made_answered (thing.NextHop hop) moves made group last = live_row (thing.NextHop hop) moves (to_list made) (λ o shared h. mapped_row plan (λ n. key.Neigh n hop.ip) (interface_on plan hop.on) o shared h) (last tt)
   made_answered (thing.Group hops) moves made group last = absurd (group (hops, refl))
   made_answered (thing.GroupMember hops hop) moves made group last = absurd (group (hops, refl))
-  made_answered (thing.Route v prefix goal) moves made group last = of_row (Make (thing.Route v prefix goal)) moves (λ o shared h. some_row plan (key.Route prefix) o shared h)
+  made_answered (thing.Route v prefix goal) moves made group last = of_row (Make (thing.Route v prefix goal)) moves (λ o shared h. some_row plan (key.Route v prefix) o shared h)
 
   taken_answered : (n : ThingName) (moves : Moves m w f (Take n) cs stands) (made : Option Vid) → (IsOfGroup plan (Take n) → ⊥) → IsStill (names_after names f.key (Take n) made)
   taken_answered (thing_name.Port lane) moves made group = of_row (Take (thing_name.Port lane)) moves (λ o shared h. mapped_row plan key.Port (port_named plan lane) o shared h)
   taken_answered (thing_name.Vlan v) moves made group = of_row (Take (thing_name.Vlan v)) moves (λ o shared h. some_row plan (key.Vlan v) o shared h)
-  taken_answered (thing_name.VirtualRouter label) moves made group = of_row (Take (thing_name.VirtualRouter label)) moves (λ o shared h. not_some o h)
+  taken_answered (thing_name.VirtualRouter label) moves made group = of_row (Take (thing_name.VirtualRouter label)) moves (λ o shared h. some_row plan (key.Vrf label) o shared h)
   taken_answered (thing_name.BridgePort lane) moves made group = gone_shared (thing_name.BridgePort lane) moves (owner.Bridge lane) (thing.BridgePort lane) tt refl refl refl
   taken_answered (thing_name.VlanMember v lane) moves made group = of_row (Take (thing_name.VlanMember v lane)) moves (λ o shared h. mapped_row plan (key.Member v) (port_named plan lane) o shared h)
   taken_answered (thing_name.Rif b) moves made group = of_row (Take (thing_name.Rif b)) moves (λ o shared h. mapped_row plan key.Intf (interface_on plan b) o shared h)
@@ -174,7 +173,7 @@ module _ (plan : Ports) (is : IsPlan plan) (workers : ℕ) (capacities : List �
   taken_answered (thing_name.NextHop hop) moves made group = of_row (Take (thing_name.NextHop hop)) moves (λ o shared h. mapped_row plan (λ n. key.Neigh n hop.ip) (interface_on plan hop.on) o shared h)
   taken_answered (thing_name.Group hops) moves made group = absurd (group (hops, refl))
   taken_answered (thing_name.GroupMember hops hop) moves made group = absurd (group (hops, refl))
-  taken_answered (thing_name.Route v prefix) moves made group = of_row (Take (thing_name.Route v prefix)) moves (λ o shared h. some_row plan (key.Route prefix) o shared h)
+  taken_answered (thing_name.Route v prefix) moves made group = of_row (Take (thing_name.Route v prefix)) moves (λ o shared h. some_row plan (key.Route v prefix) o shared h)
 
   pub registers_answered : (c : Change) (moves : Moves m w f c cs stands) (made : Option Vid) → (IsOfGroup plan c → ⊥) → (MakesRowLive c → (cs ≡ []) × (r : Row) × (f.new ≡ Some r)) → IsStill (names_after names f.key c made)
   registers_answered (Make t) moves made group last = made_answered t moves made group last

@@ -90,12 +90,12 @@ module _ (plan : Ports) (is : IsPlan plan) where
       (key.Neigh h.0.on hop.hop.ip, ap (option_map (λ n. key.Neigh n hop.hop.ip)) (subst (λ z. interface_on plan z ≡ Some h.0.on) on (interface_by plan is h.0.on b.0 b.1)))
 
   hops_on : (k : Key) (r : Row) (hops : List WHop) → IsIn (owner.Group hops) (uses plan k r) → (hop : WHop) → IsIn hop hops → (q : Key) × (option_map (λ n. key.Neigh n hop.hop.ip) (interface_on plan hop.hop.on) ≡ Some q)
-  hops_on (key.Route prefix) (row.Route (route.Hops rows)) hops h =
+  hops_on (key.Route v prefix) (row.Route (route.Hops rows)) hops h =
       let x = group_use (owner.Group hops) (hops_of plan rows) h in
       let same : hops ≡ x.0 = cc in
       on_interface rows hops (x.1 ∙ ap Some (sym same))
-  hops_on (key.Route prefix) (row.Route route.Drop) hops h = elim h [ ]
-  hops_on (key.Route prefix) (row.Route (route.Direct i)) hops h = elim h [ ]
+  hops_on (key.Route v prefix) (row.Route route.Drop) hops h = elim h [ ]
+  hops_on (key.Route v prefix) (row.Route (route.Direct i)) hops h = elim h [ ]
   hops_on (key.Member v p) (row.Member t) hops h = absurd (only (λ o. owner.Group hops ≡ o → ⊥) (owner.Group hops) _ (λ z. cc) (from_in (lane_of plan p) (λ lane. owner.Bridge lane ∷ []) (owner.Group hops) h).2 refl)
   hops_on (key.Addr i ip len) row.Addr hops h = let z = address_use plan i ip (owner.Group hops) h in absurd cc
   hops_on _ _ hops h = elim h [ ]

@@ -60,6 +60,7 @@ module _ (new : Option Row) where
     things_last : (plan : Ports) (k : Key) (a : Row) → AreLastMade (make_all (own_things plan k a) [])
     things_last plan (key.Port port) (row.Port a) = one_last (lane_of plan port) (λ lane. thing.Port (record { lanes = a.lanes; speed = a.speed; mtu = a.mtu; up = a.up }))
     things_last plan (key.Vlan vlan) row.Vlan = (λ _. (refl, r, is), tt)
+    things_last plan (key.Vrf label) row.Vrf = (λ _. (refl, r, is), tt)
     things_last plan (key.Member vlan port) (row.Member tagging) = one_last (lane_of plan port) (λ lane. thing.VlanMember vlan lane tagging)
     things_last plan (key.Intf n) row.Intf = one_last (base_of plan n) (λ b. thing.Rif b vrf.Default)
     things_last plan (key.Neigh n ip) (row.Neigh mac) = by (base_of plan n)
@@ -67,7 +68,7 @@ module _ (new : Option Row) where
         by : (x : Option Base) → AreLastMade (make_all (from x (λ b. thing.Neighbor (record { on = b; ip = ip }) mac ∷ thing.NextHop (record { on = b; ip = ip }) ∷ [])) [])
         by None = tt
         by (Some b) = (λ h. elim h [ ], (λ _. (refl, r, is), tt))
-    things_last plan (key.Route prefix) (row.Route a) = one_last (goal_of plan a) (thing.Route vrf.Default prefix)
+    things_last plan (key.Route v prefix) (row.Route a) = one_last (goal_of plan a) (thing.Route v prefix)
     things_last plan _ _ = tt
 
   own_last : (plan : Ports) (k : Key) (old x : Option Row) → new ≡ x → AreLastMade (own_changes plan k old x)

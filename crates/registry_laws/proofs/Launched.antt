@@ -1,6 +1,6 @@
 -- what a worker has under way when an operation has begun
 use Rattle.std.proofs.Common.{◌≡◌, ◌∷◌, ◌++◌, ◌∙◌, inl, inr, ℕ, Bool, true, false, if◌then◌else◌, List, [], Option, None, Some, option_map, refl, sym, ap, subst}
-use Rattle.swss_types.specs.declared.vrf.Vrf.TheVariants as vrf
+use Rattle.swss_types.specs.declared.vrf.Vrf.{Vrf}
 use Rattle.table_schema.specs.Plan.{IsPlan, Ports}
 use Rattle.table_schema.specs.declared.key.Key.{Key}
 use Rattle.table_schema.specs.declared.key.Key.TheVariants as key
@@ -86,19 +86,19 @@ set_some t u apart = by (same_thing t u) refl
 
 module _ (plan : Ports) (hops : List WHop) where
   -- the route's thing that points at the group, in the place of another
-  route_some : (prefix : Prefix) (rows : Option Goal) → rows ≡ Some (goal.Group hops) → (old : Option Row) → ((a : Row) → old ≡ Some a → Fits plan (key.Route prefix) a) → (IsIn (owner.Group hops) (uses_of plan (key.Route prefix) old) → ⊥) → (r : RouteRow) → goal_of plan r ≡ rows → own_changes plan (key.Route prefix) old (Some (row.Route r)) ≡ [] → ⊥
-  route_some prefix rows is None fits unused r e h = some_of_due (Make (thing.Route vrf.Default prefix (goal.Group hops))) [] (sym (ap (λ z. make_all (from z (λ g. thing.Route vrf.Default prefix g ∷ [])) []) (e ∙ is)) ∙ h)
-  route_some prefix rows is (Some (row.Route a)) fits unused r e h =
+  route_some : (v : Vrf) (prefix : Prefix) (rows : Option Goal) → rows ≡ Some (goal.Group hops) → (old : Option Row) → ((a : Row) → old ≡ Some a → Fits plan (key.Route v prefix) a) → (IsIn (owner.Group hops) (uses_of plan (key.Route v prefix) old) → ⊥) → (r : RouteRow) → goal_of plan r ≡ rows → own_changes plan (key.Route v prefix) old (Some (row.Route r)) ≡ [] → ⊥
+  route_some v prefix rows is None fits unused r e h = some_of_due (Make (thing.Route v prefix (goal.Group hops))) [] (sym (ap (λ z. make_all (from z (λ g. thing.Route v prefix g ∷ [])) []) (e ∙ is)) ∙ h)
+  route_some v prefix rows is (Some (row.Route a)) fits unused r e h =
       let was = (fits (row.Route a) refl).1 in
-      set_some (thing.Route vrf.Default prefix was.0) (thing.Route vrf.Default prefix (goal.Group hops))
+      set_some (thing.Route v prefix was.0) (thing.Route v prefix (goal.Group hops))
       (λ same. let one : was.0 ≡ goal.Group hops = cc in unused (route_use plan a hops (was.1 ∙ ap Some one)))
-      (sym (ap (λ z. set_all (from z (λ g. thing.Route vrf.Default prefix g ∷ [])) (from (goal_of plan r) (λ g. thing.Route vrf.Default prefix g ∷ []))) was.1 ∙ ap (λ z. set_all (thing.Route vrf.Default prefix was.0 ∷ []) (from z (λ g. thing.Route vrf.Default prefix g ∷ []))) (e ∙ is)) ∙ h)
-  route_some prefix rows is (Some a) fits unused r e h = elim (fits a refl) [ ]
+      (sym (ap (λ z. set_all (from z (λ g. thing.Route v prefix g ∷ [])) (from (goal_of plan r) (λ g. thing.Route v prefix g ∷ []))) was.1 ∙ ap (λ z. set_all (thing.Route v prefix was.0 ∷ []) (from z (λ g. thing.Route v prefix g ∷ []))) (e ∙ is)) ∙ h)
+  route_some v prefix rows is (Some a) fits unused r e h = elim (fits a refl) [ ]
 
   own_some : (k : Key) (r : Row) (old : Option Row) → IsIn (owner.Group hops) (uses plan k r) → ((a : Row) → old ≡ Some a → Fits plan k a) → (IsIn (owner.Group hops) (uses_of plan k old) → ⊥) → own_changes plan k old (Some r) ≡ [] → ⊥
-  own_some (key.Route prefix) (row.Route (route.Hops rows)) old i fits unused h = route_some prefix (goal_to (hops_of plan rows)) (goal_is (hops_of plan rows) hops i) old fits unused (route.Hops rows) refl h
-  own_some (key.Route prefix) (row.Route route.Drop) old i fits unused h = i
-  own_some (key.Route prefix) (row.Route (route.Direct n)) old i fits unused h = i
+  own_some (key.Route v prefix) (row.Route (route.Hops rows)) old i fits unused h = route_some v prefix (goal_to (hops_of plan rows)) (goal_is (hops_of plan rows) hops i) old fits unused (route.Hops rows) refl h
+  own_some (key.Route v prefix) (row.Route route.Drop) old i fits unused h = i
+  own_some (key.Route v prefix) (row.Route (route.Direct n)) old i fits unused h = i
   own_some (key.Member v p) (row.Member t) old i fits unused h = only (λ o. owner.Group hops ≡ o → ⊥) (owner.Group hops) _ (λ z. cc) (from_in (lane_of plan p) (λ lane. owner.Bridge lane ∷ []) (owner.Group hops) i).2 refl
   own_some (key.Addr n ip len) row.Addr old i fits unused h = let z = address_use plan n ip (owner.Group hops) i in cc
   own_some _ _ old i fits unused h = elim i [ ]

@@ -1,7 +1,6 @@
 -- what the change that is due next is about
 use Rattle.std.proofs.Common.{◌≡◌, ◌⊎◌, ◌∷◌, ◌++◌, ◌∙◌, inl, inr, ℕ, List, [], Option, None, Some, refl, sym, ap, subst}
 use Rattle.std.proofs.lemmas.Option.{same_Some}
-use Rattle.swss_types.specs.declared.vrf.Vrf.TheVariants as vrf
 use Rattle.table_schema.specs.Plan.{IsPlan, Ports}
 use Rattle.table_schema.specs.declared.key.Key.{Key}
 use Rattle.table_schema.specs.declared.key.Key.TheVariants as key
@@ -64,6 +63,9 @@ same_names plan (key.Port p) r n t fr fn h = elim fr [ ]
 same_names plan (key.Vlan v) row.Vlan row.Vlan t fr fn h = (t, h, refl)
 same_names plan (key.Vlan v) row.Vlan n t fr fn h = elim fn [ ]
 same_names plan (key.Vlan v) r n t fr fn h = elim fr [ ]
+same_names plan (key.Vrf label) row.Vrf row.Vrf t fr fn h = (t, h, refl)
+same_names plan (key.Vrf label) row.Vrf n t fr fn h = elim fn [ ]
+same_names plan (key.Vrf label) r n t fr fn h = elim fr [ ]
 same_names plan (key.Member v p) (row.Member x) (row.Member z) t fr fn h = one_named (lane_of plan p) (λ lane. thing.VlanMember v lane x) (λ lane. thing.VlanMember v lane z) t h (λ lane e. refl)
 same_names plan (key.Member v p) (row.Member x) n t fr fn h = elim fn [ ]
 same_names plan (key.Member v p) r n t fr fn h = elim fr [ ]
@@ -81,15 +83,15 @@ same_names plan (key.Neigh i ip) (row.Neigh x) (row.Neigh z) t fr fn h = by (bas
     by (Some b) (inr (inr g)) = elim g [ ]
 same_names plan (key.Neigh i ip) (row.Neigh x) n t fr fn h = elim fn [ ]
 same_names plan (key.Neigh i ip) r n t fr fn h = elim fr [ ]
-same_names plan (key.Route prefix) (row.Route r) (row.Route n) t fr fn h = by (goal_of plan r) (goal_of plan n) fn.1.1 h
+same_names plan (key.Route v prefix) (row.Route r) (row.Route n) t fr fn h = by (goal_of plan r) (goal_of plan n) fn.1.1 h
   where
-    by : (o p : Option Goal) → p ≡ Some fn.1.0 → IsIn t (from o (λ g. thing.Route vrf.Default prefix g ∷ [])) → HasNamed (from p (λ g. thing.Route vrf.Default prefix g ∷ [])) t
+    by : (o p : Option Goal) → p ≡ Some fn.1.0 → IsIn t (from o (λ g. thing.Route v prefix g ∷ [])) → HasNamed (from p (λ g. thing.Route v prefix g ∷ [])) t
     by None p e g = elim g [ ]
     by (Some x) None e g = not_some fn.1.0 e
-    by (Some x) (Some z) e (inl is) = (thing.Route vrf.Default prefix z, inl refl, ap name_of (sym is))
+    by (Some x) (Some z) e (inl is) = (thing.Route v prefix z, inl refl, ap name_of (sym is))
     by (Some x) (Some z) e (inr g) = elim g [ ]
-same_names plan (key.Route prefix) (row.Route r) n t fr fn h = elim fn [ ]
-same_names plan (key.Route prefix) r n t fr fn h = elim fr [ ]
+same_names plan (key.Route v prefix) (row.Route r) n t fr fn h = elim fn [ ]
+same_names plan (key.Route v prefix) r n t fr fn h = elim fr [ ]
 same_names plan (key.Other text) r n t fr fn h = elim fr [ ]
 
 -- what is due after other changes can be made then

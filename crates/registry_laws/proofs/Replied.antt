@@ -32,7 +32,6 @@ use Rattle.switch_machine.proofs.Running.{row_keys}
 use Rattle.switch_machine.proofs.Splits.{own_row_in, put_at}
 use Rattle.switch_machine.proofs.Tabled.{tabled}
 use Rattle.ref_counts.specs.Registry as registry
-use Rattle.ref_counts.specs.Registry.{state_of}
 use Rattle.ref_counts.specs.Room.{GivesBack, RoomState}
 use Rattle.orch_flight.specs.Operation.{Operation}
 use Rattle.orch_flight.specs.Starting.{built_here, taken_here}

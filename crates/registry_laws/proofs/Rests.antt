@@ -124,6 +124,8 @@ module _ (plan : Ports) (is : IsPlan plan) where
   sets_order (key.Port p) a r fa fr = elim fa [ ]
   sets_order (key.Vlan v) a row.Vlan fa fr = small_order plan (key.Vlan v) (Some a) (never_none a) (own_things plan (key.Vlan v) a) (thing.Vlan v ∷ []) (owned (key.Vlan v) row.Vlan fr) (inr (thing.Vlan v, refl))
   sets_order (key.Vlan v) a r fa fr = elim fr [ ]
+  sets_order (key.Vrf label) a row.Vrf fa fr = small_order plan (key.Vrf label) (Some a) (never_none a) (own_things plan (key.Vrf label) a) (thing.VirtualRouter label ∷ []) (owned (key.Vrf label) row.Vrf fr) (inr (thing.VirtualRouter label, refl))
+  sets_order (key.Vrf label) a r fa fr = elim fr [ ]
   sets_order (key.Member v p) a (row.Member x) fa fr = small_order plan (key.Member v p) (Some a) (never_none a) (own_things plan (key.Member v p) a) (own_things plan (key.Member v p) (row.Member x)) (owned (key.Member v p) (row.Member x) fr) (from_small (lane_of plan p) (λ lane. thing.VlanMember v lane x))
   sets_order (key.Member v p) a r fa fr = elim fr [ ]
   sets_order (key.Intf n) a row.Intf fa fr = small_order plan (key.Intf n) (Some a) (never_none a) (own_things plan (key.Intf n) a) (own_things plan (key.Intf n) row.Intf) (owned (key.Intf n) row.Intf fr) (from_small (base_of plan n) (λ b. thing.Rif b vrf.Default))
@@ -140,8 +142,8 @@ module _ (plan : Ports) (is : IsPlan plan) where
           set_order plan (key.Neigh n ip) (Some (row.Neigh x)) (never_none (row.Neigh x)) (thing.Neighbor hop x) (thing.Neighbor hop y) (set_all (thing.NextHop hop ∷ []) (thing.NextHop hop ∷ [])) (own (thing.Neighbor hop y) (inl refl)) (inr same) (subst (AreInOrder plan (key.Neigh n ip) (Some (row.Neigh x))) (sym same) tt)
   sets_order (key.Neigh n ip) (row.Neigh x) r fa fr = elim fr [ ]
   sets_order (key.Neigh n ip) a r fa fr = elim fa [ ]
-  sets_order (key.Route prefix) a (row.Route r) fa fr = small_order plan (key.Route prefix) (Some a) (never_none a) (own_things plan (key.Route prefix) a) (own_things plan (key.Route prefix) (row.Route r)) (owned (key.Route prefix) (row.Route r) fr) (from_small (goal_of plan r) (thing.Route vrf.Default prefix))
-  sets_order (key.Route prefix) a r fa fr = elim fr [ ]
+  sets_order (key.Route v prefix) a (row.Route r) fa fr = small_order plan (key.Route v prefix) (Some a) (never_none a) (own_things plan (key.Route v prefix) a) (own_things plan (key.Route v prefix) (row.Route r)) (owned (key.Route v prefix) (row.Route r) fr) (from_small (goal_of plan r) (thing.Route v prefix))
+  sets_order (key.Route v prefix) a r fa fr = elim fr [ ]
   sets_order (key.Other text) a r fa fr = elim fr [ ]
 
   own_order : (k : Key) (old new : Option Row) → ((r : Row) → old ≡ Some r → Fits plan k r) → ((r : Row) → new ≡ Some r → Fits plan k r) → AreInOrder plan k old (own_changes plan k old new)

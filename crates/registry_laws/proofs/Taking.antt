@@ -106,7 +106,7 @@ module _ (plan : Ports) (k : Key) where
   one_id : (t : Thing) → owner_of plan (name_of t) ≡ Some (owner.OfRow k) → built_name k t ≡ Some (name.Row k) → ids_for_row k ≡ 1
   one_id (thing.Port p) own b = one_by key.Port (port_named plan _) (λ y e. refl) own
   one_id (thing.Vlan v) own b = ap ids_for_row (sym (row_keys (key.Vlan v) k (same_Some (owner.OfRow (key.Vlan v)) (owner.OfRow k) own)))
-  one_id (thing.VirtualRouter label) own b = not_some (owner.OfRow k) own
+  one_id (thing.VirtualRouter label) own b = ap ids_for_row (sym (row_keys (key.Vrf label) k (same_Some (owner.OfRow (key.Vrf label)) (owner.OfRow k) own)))
   one_id (thing.BridgePort lane) own b = absurd cc
   one_id (thing.VlanMember v lane x) own b = one_by (key.Member v) (port_named plan lane) (λ y e. refl) own
   one_id (thing.Rif b v) own h = one_by key.Intf (interface_on plan b) (λ y e. one_intf b y e) own
@@ -227,7 +227,7 @@ module _ (plan : Ports) (is : IsPlan plan) (capacities : List ℕ) (names : regi
     builds_by : (t : Thing) (rest : List Change) (due : f.due ≡ Make t ∷ rest) (made : Option Vid) → is_some made ≡ has_number t → (n : Name) → built_name k t ≡ Some n → (state_of names n ≡ state.Building f.worker) × (length (to_list made) ≤ places_of names n)
     builds_by (thing.Port p) rest due made e n h = subst (λ z. (state_of names z ≡ state.Building f.worker) × (length (to_list made) ≤ places_of names z)) (same_Some (name.Row k) n h) (row_builds (thing.Port p) rest due made (λ o shared i. mapped_row plan key.Port (port_named plan _) o shared i) e refl)
     builds_by (thing.Vlan v) rest due made e n h = subst (λ z. (state_of names z ≡ state.Building f.worker) × (length (to_list made) ≤ places_of names z)) (same_Some (name.Row k) n h) (row_builds (thing.Vlan v) rest due made (λ o shared i. some_row plan (key.Vlan v) o shared i) e refl)
-    builds_by (thing.VirtualRouter label) rest due made e n h = subst (λ z. (state_of names z ≡ state.Building f.worker) × (length (to_list made) ≤ places_of names z)) (same_Some (name.Row k) n h) (row_builds (thing.VirtualRouter label) rest due made (λ o shared i. not_some o i) e refl)
+    builds_by (thing.VirtualRouter label) rest due made e n h = subst (λ z. (state_of names z ≡ state.Building f.worker) × (length (to_list made) ≤ places_of names z)) (same_Some (name.Row k) n h) (row_builds (thing.VirtualRouter label) rest due made (λ o shared i. some_row plan (key.Vrf label) o shared i) e refl)
     builds_by (thing.BridgePort lane) rest due made e n h = subst (λ z. (state_of names z ≡ state.Building f.worker) × (length (to_list made) ≤ places_of names z)) (same_Some (name.BridgePort lane) n h) (shared_builds (thing.BridgePort lane) rest due made (owner.Bridge lane) tt refl e (λ _. omega arith))
     builds_by (thing.VlanMember v lane z) rest due made e n h = subst (λ z. (state_of names z ≡ state.Building f.worker) × (length (to_list made) ≤ places_of names z)) (same_Some (name.Row k) n h) (row_builds (thing.VlanMember v lane z) rest due made (λ o shared i. mapped_row plan (key.Member v) (port_named plan lane) o shared i) e refl)
     builds_by (thing.Rif b v) rest due made e n h = subst (λ z. (state_of names z ≡ state.Building f.worker) × (length (to_list made) ≤ places_of names z)) (same_Some (name.Row k) n h) (row_builds (thing.Rif b v) rest due made (λ o shared i. mapped_row plan key.Intf (interface_on plan b) o shared i) e refl)

@@ -82,14 +82,14 @@ of-body plan layout t b of h = subst (IsPlannedBody plan) (sym of.body_is) (body
 pub by-body : (plan : Ports) (layout : Layout Rid) (t : Thing) (b : Body Rid) → IsBody (Has layout) t b → IsPlannedBody plan b → IsPlannedThing plan t
 by-body plan layout t b of h = planned-body plan t of.first of.second (subst (IsPlannedBody plan) of.body_is h)
 
-route_fits : (plan : Ports) (prefix : Prefix) (r : Row) → Fits plan (key.Route prefix) r → IsProperPrefix prefix
-route_fits plan prefix (row.Route r) h = h.0
-route_fits plan prefix _ h = elim h [ ]
+route_fits : (plan : Ports) (v : Vrf) (prefix : Prefix) (r : Row) → Fits plan (key.Route v prefix) r → IsProperPrefix prefix
+route_fits plan v prefix (row.Route r) h = h.0
+route_fits plan v prefix _ h = elim h [ ]
 
-route_key : (prefix : Prefix) (k : Key) → Some (OfRow (key.Route prefix)) ≡ Some (OfRow k) → key.Route prefix ≡ k
-route_key prefix k h = cc
+route_key : (v : Vrf) (prefix : Prefix) (k : Key) → Some (OfRow (key.Route v prefix)) ≡ Some (OfRow k) → key.Route v prefix ≡ k
+route_key v prefix k h = cc
 
-route_owner : (v : Vrf) (prefix : Prefix) (g : Goal) (o : Owner) → Some (OfRow (key.Route prefix)) ≡ Some o → IsIn (thing.Route v prefix g) (shared_things o) → ⊥
+route_owner : (v : Vrf) (prefix : Prefix) (g : Goal) (o : Owner) → Some (OfRow (key.Route v prefix)) ≡ Some o → IsIn (thing.Route v prefix g) (shared_things o) → ⊥
 route_owner v prefix g (owner.OfRow k) e h = elim h [ ]
 route_owner v prefix g (owner.Bridge lane) e h = absurd cc
 route_owner v prefix g (owner.Own w ip) e h = absurd cc
@@ -114,7 +114,7 @@ module _ (plan : Ports) (tables : TableLaws plan) where
   own-planned k r (thing.Rif on v) fit h =
       let m = mapped (λ n. OfRow (key.Intf n)) (interface_on plan on) (OfRow k) (tables.own k r (thing.Rif on v) fit h) in
       rif_default plan m.0 r on v (subst (λ z. IsIn (thing.Rif on v) (own_things plan z r)) (sym (intf_key m.0 k m.2)) h)
-  own-planned k r (thing.Route v prefix g) fit h = route_fits plan prefix r (subst (λ z. Fits plan z r) (sym (route_key prefix k (tables.own k r (thing.Route v prefix g) fit h))) fit)
+  own-planned k r (thing.Route v prefix g) fit h = route_fits plan v prefix r (subst (λ z. Fits plan z r) (sym (route_key v prefix k (tables.own k r (thing.Route v prefix g) fit h))) fit)
   own-planned k r (thing.Vlan v) fit h = tt
   own-planned k r (thing.VirtualRouter label) fit h = tt
   own-planned k r (thing.BridgePort v) fit h = tt

@@ -6,8 +6,10 @@ use Rattle.std.specs.List.Sorted.{IsStrictlySortedBy}
 use Rattle.std.specs.declared.cmp.Ordering.TheVariants.{Less, Equal, Greater}
 use Rattle.swss_types.specs.declared.interface.IfName.{IfName}
 use Rattle.swss_types.specs.declared.interface.IfName.TheVariants as ifname
+use Rattle.swss_types.specs.declared.vrf.Vrf.{Vrf}
+use Rattle.swss_types.specs.declared.vrf.Vrf.TheVariants as vrf
 use Rattle.table_schema.specs.Key.{key_cmp}
-use Rattle.table_schema.specs.Names.{base_names, names_of}
+use Rattle.table_schema.specs.Names.{base_names, names_of, names_of_route}
 use Rattle.table_schema.specs.declared.key.Key.{Key}
 use Rattle.table_schema.specs.declared.key.Key.TheVariants as key
 use Rattle.table_schema.specs.declared.row.Row.{Row}
@@ -18,10 +20,17 @@ use Rattle.table_schema.proofs.Keys.{key_total}
 use Rattle.swss_types.specs.declared.address.Prefix.{Prefix}
 use Rattle.sai_types.specs.Alike.{IsIn}
 
-hop_key_below : (prefix : Prefix) (p : Key) (hops : List (RowHop × ℕ)) → IsIn p (map (λ (h : RowHop × ℕ). key.Neigh h.0.on h.0.ip) hops) → key_cmp p (key.Route prefix) ≡ Less
-hop_key_below prefix p [] h = elim h [ ]
-hop_key_below prefix p (x ∷ xs) (inl e) = ap (λ z. key_cmp z (key.Route prefix)) e
-hop_key_below prefix p (x ∷ xs) (inr h) = hop_key_below prefix p xs h
+hop_key_below : (v : Vrf) (prefix : Prefix) (p : Key) (hops : List (RowHop × ℕ)) → IsIn p (map (λ (h : RowHop × ℕ). key.Neigh h.0.on h.0.ip) hops) → key_cmp p (key.Route v prefix) ≡ Less
+hop_key_below v prefix p [] h = elim h [ ]
+hop_key_below v prefix p (x ∷ xs) (inl e) = ap (λ z. key_cmp z (key.Route v prefix)) e
+hop_key_below v prefix p (x ∷ xs) (inr h) = hop_key_below v prefix p xs h
+
+target_below : (v : Vrf) (prefix : Prefix) (p : Key) (r : Row) → IsIn p (names_of_route r) → key_cmp p (key.Route v prefix) ≡ Less
+target_below v prefix p (row.Route route.Drop) h = elim h [ ]
+target_below v prefix p (row.Route (route.Direct on)) (inl e) = ap (λ z. key_cmp z (key.Route v prefix)) e
+target_below v prefix p (row.Route (route.Direct on)) (inr h) = elim h [ ]
+target_below v prefix p (row.Route (route.Hops hops)) h = hop_key_below v prefix p hops h
+target_below v prefix p _ h = elim h [ ]
 
 base_below : (on : IfName) (p : Key) → IsIn p (base_names on) → key_cmp p (key.Intf on) ≡ Less
 base_below (ifname.Ethernet port) p (inl e) = ap (λ z. key_cmp z (key.Intf (ifname.Ethernet port))) e
@@ -33,6 +42,7 @@ base_below (ifname.Loopback n) p h = elim h [ ]
 pub names-below : (k p : Key) (r : Row) → IsIn p (names_of k r) → key_cmp p k ≡ Less
 names-below (key.Port port) p r h = elim h [ ]
 names-below (key.Vlan vlan) p r h = elim h [ ]
+names-below (key.Vrf n) p r h = elim h [ ]
 names-below (key.Member vlan port) p r (inl e) = ap (λ z. key_cmp z (key.Member vlan port)) e
 names-below (key.Member vlan port) p r (inr (inl e)) = ap (λ z. key_cmp z (key.Member vlan port)) e
 names-below (key.Member vlan port) p r (inr (inr h)) = elim h [ ]
@@ -41,11 +51,9 @@ names-below (key.Addr on ip len) p r (inl e) = ap (λ z. key_cmp z (key.Addr on 
 names-below (key.Addr on ip len) p r (inr h) = elim h [ ]
 names-below (key.Neigh on ip) p r (inl e) = ap (λ z. key_cmp z (key.Neigh on ip)) e
 names-below (key.Neigh on ip) p r (inr h) = elim h [ ]
-names-below (key.Route prefix) p (row.Route route.Drop) h = elim h [ ]
-names-below (key.Route prefix) p (row.Route (route.Direct on)) (inl e) = ap (λ z. key_cmp z (key.Route prefix)) e
-names-below (key.Route prefix) p (row.Route (route.Direct on)) (inr h) = elim h [ ]
-names-below (key.Route prefix) p (row.Route (route.Hops hops)) h = hop_key_below prefix p hops h
-names-below (key.Route prefix) p _ h = elim h [ ]
+names-below (key.Route vrf.Default prefix) p r h = target_below vrf.Default prefix p r h
+names-below (key.Route (vrf.Named n) prefix) p r (inl e) = ap (λ z. key_cmp z (key.Route (vrf.Named n) prefix)) e
+names-below (key.Route (vrf.Named n) prefix) p r (inr h) = target_below (vrf.Named n) prefix p r h
 names-below (key.Other text) p r h = elim h [ ]
 
 key_less_than_rest : (k q : Key) (ks : List Key) → AllByRecursion (λ y. key_cmp k y ≡ Less) ks → IsIn q ks → key_cmp k q ≡ Less

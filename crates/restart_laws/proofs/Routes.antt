@@ -49,7 +49,7 @@ module _ (plan : Ports) (is : IsPlan plan) (workers : ℕ) (capacities : List �
   AreRouted taken es = (j : ℕ) → j ≤ length es → RoutesAreOfRows plan taken (chip_after es j)
 
   abbrev HasRow : List Sent → Vrf → Prefix → Goal → Type 0
-  HasRow taken v prefix goal = (n : ℕ) × (row : Row) × (n ≤ length taken) × (good_rows_at plan taken n (key.Route prefix) ≡ Some row) × IsIn (thing.Route v prefix goal) (things_of plan (key.Route prefix) row)
+  HasRow taken v prefix goal = (n : ℕ) × (row : Row) × (n ≤ length taken) × (good_rows_at plan taken n (key.Route v prefix) ≡ Some row) × IsIn (thing.Route v prefix goal) (things_of plan (key.Route v prefix) row)
 
   -- after one more call of a plan, whether it was answered so or not
   apply_routes : (s : LoggedService) (call : Call Rid) (rest : List (Call Rid)) → Told s → Under s → AreRouted s.log.taken s.effects → s.service.warm ≡ Applying → s.service.left ≡ call ∷ rest → RoutesAreOfRows plan s.log.taken (after_calls 0 [] (s.effects ++ call ∷ []))
@@ -78,7 +78,7 @@ module _ (plan : Ports) (is : IsPlan plan) (workers : ℕ) (capacities : List �
           let a = in_state plan is workers capacities s.service Applying told.holds at in
           let stands : StandsIn s.service.core.machine It = subst (λ z. StandsIn z It) (sym u.machine) (things-in u.restores.view.machine.stands It i) in
           let row = row-of_route plan s.service.core.machine a.view.sound v prefix goal stands in
-          route_dated plan is workers capacities s.log.taken s.service.core.written.taken v prefix goal row.0 told.tells.taken (a.view.good (key.Route prefix) row.0 row.1) row.2
+          route_dated plan is workers capacities s.log.taken s.service.core.written.taken v prefix goal row.0 told.tells.taken (a.view.good (key.Route v prefix) row.0 row.1) row.2
 
   -- ---- with each event
 

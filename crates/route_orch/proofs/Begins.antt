@@ -1,7 +1,6 @@
 -- what begins for a route
 use Rattle.std.proofs.Common.{◌≡◌, ◌+◌, ℕ, ◌==◌, Bool, true, false, cond, List, [], ◌∷◌, map, length, Option, Some, None, is_some, Result, OnOk, OnErr, IfOk, IfErr, if◌then◌else◌, refl, sym, ap, ap₂, subst, ◌∙◌, arith, Bor}
 use Rattle.swss_types.specs.declared.out_of_memory.OutOfMemory.{OutOfMemory}
-use Rattle.swss_types.specs.declared.vrf.Vrf.TheVariants as vrf
 use Rattle.table_schema.specs.Names.{names_of}
 use Rattle.table_schema.specs.Plan.{Ports}
 use Rattle.table_schema.specs.declared.key.Key.{Key}
@@ -74,33 +73,33 @@ by_group names (Some (name.Own v ip)) applied own groups plain built = elim grou
 
 module _ (plan : Ports) (names : Names) (group : Option Name) (groups : AreGroups group) where
   places : (k : Key) (old : Option Row) (r : Row) → IsRouteKey k → ((a : Row) → old ≡ Some a → Fits plan k a) → Fits plan k r → uses_of plan k (Some r) ≡ owners_of group → places_for (built_first (to_build plan names k (Some r)) (own_changes plan k old (Some r))) ≡ places_needed (lacks_shared names group) group (is_some old)
-  places (key.Route p) None (row.Route r) is of_old fits shares =
-      ap (λ us. places_for (built_first (first_absent names us) (own_changes plan (key.Route p) None (Some (row.Route r))))) shares
-      ∙ ap (λ o. places_for (built_first (first_absent names (owners_of group)) (make_all (from o (λ g. thing.Route vrf.Default p g ∷ [])) []))) fits.1.1
-      ∙ by_group names group false (Make (thing.Route vrf.Default p fits.1.0) ∷ []) groups refl (λ hops. places-built hops (Make (thing.Route vrf.Default p fits.1.0) ∷ []) ∙ group_counted hops 1)
-  places (key.Route p) (Some (row.Route a)) (row.Route r) is of_old fits shares =
+  places (key.Route v p) None (row.Route r) is of_old fits shares =
+      ap (λ us. places_for (built_first (first_absent names us) (own_changes plan (key.Route v p) None (Some (row.Route r))))) shares
+      ∙ ap (λ o. places_for (built_first (first_absent names (owners_of group)) (make_all (from o (λ g. thing.Route v p g ∷ [])) []))) fits.1.1
+      ∙ by_group names group false (Make (thing.Route v p fits.1.0) ∷ []) groups refl (λ hops. places-built hops (Make (thing.Route v p fits.1.0) ∷ []) ∙ group_counted hops 1)
+  places (key.Route v p) (Some (row.Route a)) (row.Route r) is of_old fits shares =
       let was = (of_old (row.Route a) refl).1 in
-      ap (λ us. places_for (built_first (first_absent names us) (own_changes plan (key.Route p) (Some (row.Route a)) (Some (row.Route r))))) shares
-      ∙ ap₂ (λ x y. places_for (built_first (first_absent names (owners_of group)) (set_all (from x (λ g. thing.Route vrf.Default p g ∷ [])) (from y (λ g. thing.Route vrf.Default p g ∷ []))))) was.1 fits.1.1
-      ∙ by_group names group true (set_to (thing.Route vrf.Default p was.0) (thing.Route vrf.Default p fits.1.0) []) groups (places-set (thing.Route vrf.Default p was.0) (thing.Route vrf.Default p fits.1.0) []) (λ hops. set_group hops (thing.Route vrf.Default p was.0) (thing.Route vrf.Default p fits.1.0))
-  places (key.Route p) (Some (row.Route a)) _ is of_old fits shares = elim fits [ ]
-  places (key.Route p) (Some a) r is of_old fits shares = elim (of_old a refl) [ ]
-  places (key.Route p) None _ is of_old fits shares = elim fits [ ]
+      ap (λ us. places_for (built_first (first_absent names us) (own_changes plan (key.Route v p) (Some (row.Route a)) (Some (row.Route r))))) shares
+      ∙ ap₂ (λ x y. places_for (built_first (first_absent names (owners_of group)) (set_all (from x (λ g. thing.Route v p g ∷ [])) (from y (λ g. thing.Route v p g ∷ []))))) was.1 fits.1.1
+      ∙ by_group names group true (set_to (thing.Route v p was.0) (thing.Route v p fits.1.0) []) groups (places-set (thing.Route v p was.0) (thing.Route v p fits.1.0) []) (λ hops. set_group hops (thing.Route v p was.0) (thing.Route v p fits.1.0))
+  places (key.Route v p) (Some (row.Route a)) _ is of_old fits shares = elim fits [ ]
+  places (key.Route v p) (Some a) r is of_old fits shares = elim (of_old a refl) [ ]
+  places (key.Route v p) None _ is of_old fits shares = elim fits [ ]
   places _ old r is of_old fits shares = elim is [ ]
 
   names_begun : (worker : ℕ) (k : Key) (old : Option Row) (r : Row) → IsRouteKey k → ((a : Row) → old ≡ Some a → Fits plan k a) → Fits plan k r → uses_of plan k (Some r) ≡ owners_of group → started_names plan names worker k old (Some r) ≡ begun_by names worker k (names_of k r) (is_some old) group (lacks_shared names group)
-  names_begun worker (key.Route p) None (row.Route r) is of_old fits shares =
-      names-due (begun_names plan names worker (key.Route p) None (Some (row.Route r))) worker (key.Route p) (first_due plan names (key.Route p) None (Some (row.Route r))) (leaving plan (key.Route p) None (Some (row.Route r))) (λ none. refl)
-      ∙ row-names plan names (key.Route p) (row.Route r) group shares worker None
-  names_begun worker (key.Route p) (Some (row.Route a)) (row.Route r) is of_old fits shares =
-      let k = key.Route p in
+  names_begun worker (key.Route v p) None (row.Route r) is of_old fits shares =
+      names-due (begun_names plan names worker (key.Route v p) None (Some (row.Route r))) worker (key.Route v p) (first_due plan names (key.Route v p) None (Some (row.Route r))) (leaving plan (key.Route v p) None (Some (row.Route r))) (λ none. refl)
+      ∙ row-names plan names (key.Route v p) (row.Route r) group shares worker None
+  names_begun worker (key.Route v p) (Some (row.Route a)) (row.Route r) is of_old fits shares =
+      let k = key.Route v p in
       let own = own_changes plan k (Some (row.Route a)) (Some (row.Route r)) in
       names-due (begun_names plan names worker k (Some (row.Route a)) (Some (row.Route r))) worker k (first_due plan names k (Some (row.Route a)) (Some (row.Route r))) (leaving plan k (Some (row.Route a)) (Some (row.Route r)))
-      (λ none. none-left plan p (Some a) (Some r) (of_old (row.Route a) refl).1 fits.1 (sym (built-apart names (uses_of plan k (Some (row.Route r))) group own shares groups) ∙ none))
+      (λ none. none-left plan v p (Some a) (Some r) (of_old (row.Route a) refl).1 fits.1 (sym (built-apart names (uses_of plan k (Some (row.Route r))) group own shares groups) ∙ none))
       ∙ row-names plan names k (row.Route r) group shares worker (Some (row.Route a))
-  names_begun worker (key.Route p) (Some (row.Route a)) _ is of_old fits shares = elim fits [ ]
-  names_begun worker (key.Route p) (Some a) r is of_old fits shares = elim (of_old a refl) [ ]
-  names_begun worker (key.Route p) None _ is of_old fits shares = elim fits [ ]
+  names_begun worker (key.Route v p) (Some (row.Route a)) _ is of_old fits shares = elim fits [ ]
+  names_begun worker (key.Route v p) (Some a) r is of_old fits shares = elim (of_old a refl) [ ]
+  names_begun worker (key.Route v p) None _ is of_old fits shares = elim fits [ ]
   names_begun worker _ old r is of_old fits shares = elim is [ ]
 
 -- ---- the start of a route that is to be there
@@ -134,12 +133,12 @@ some-row (Some r) = refl
 -- ---- the start of a route that is to go
 
 pub removed-places : (plan : Ports) (k : Key) (a : Row) → IsRouteKey k → places_for (own_changes plan k (Some a) None) ≡ no_places
-removed-places plan (key.Route p) (row.Route a) is = places-taken (from (goal_of plan a) (λ g. thing.Route vrf.Default p g ∷ []))
-removed-places plan (key.Route p) _ is = refl
+removed-places plan (key.Route v p) (row.Route a) is = places-taken (from (goal_of plan a) (λ g. thing.Route v p g ∷ []))
+removed-places plan (key.Route v p) _ is = refl
 removed-places plan _ a is = elim is [ ]
 
 pub removed-names : (plan : Ports) (names : Names) (worker : ℕ) (k : Key) (a : Row) → IsRouteKey k → Fits plan k a → started_names plan names worker k (Some a) None ≡ changed names (name.Row k) (begun_to_go worker)
-removed-names plan names worker (key.Route p) (row.Route a) is fits =
-    names-due (changed names (name.Row (key.Route p)) (begun_to_go worker)) worker (key.Route p) (first_due plan names (key.Route p) (Some (row.Route a)) None) (leaving plan (key.Route p) (Some (row.Route a)) None) (none-left plan p (Some a) None fits.1 tt)
-removed-names plan names worker (key.Route p) _ is fits = elim fits [ ]
+removed-names plan names worker (key.Route v p) (row.Route a) is fits =
+    names-due (changed names (name.Row (key.Route v p)) (begun_to_go worker)) worker (key.Route v p) (first_due plan names (key.Route v p) (Some (row.Route a)) None) (leaving plan (key.Route v p) (Some (row.Route a)) None) (none-left plan v p (Some a) None fits.1 tt)
+removed-names plan names worker (key.Route v p) _ is fits = elim fits [ ]
 removed-names plan names worker _ a is fits = elim is [ ]

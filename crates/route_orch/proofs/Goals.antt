@@ -2,7 +2,7 @@
 use Rattle.std.proofs.Common.{◌≡◌, inl, inr, ℕ, List, [], ◌∷◌, Option, Some, None, option_map, refl, sym, ap, subst, ◌∙◌}
 use Rattle.std.proofs.lemmas.Option.{none-some, same_Some}
 use Rattle.swss_types.specs.declared.address.Prefix.{Prefix}
-use Rattle.swss_types.specs.declared.vrf.Vrf.TheVariants as vrf
+use Rattle.swss_types.specs.declared.vrf.Vrf.{Vrf}
 use Rattle.swss_types.proofs.Proper.{mapped}
 use Rattle.table_schema.specs.Plan.{IsPlan, Ports}
 use Rattle.table_schema.specs.declared.key.Key.TheVariants as key
@@ -93,14 +93,14 @@ way_of_goal plan (route.Hops []) g e none = absurd (none-some g e)
 way_of_goal plan (route.Hops (h ∷ hs)) g e none = way_by plan h hs (hops_of plan (h ∷ hs)) g refl e none
 
 -- the target of a row is its goal
-pub target-goal : (plan : Ports) (p : Prefix) (r : RouteRow) (t : Target) (g : Goal) → IsTargetOf plan (key.Route p) (Some (row.Route r)) t → goal_of plan r ≡ Some g → goal_at t ≡ g
-target-goal plan p r t g is e =
+pub target-goal : (plan : Ports) (v : Vrf) (p : Prefix) (r : RouteRow) (t : Target) (g : Goal) → IsTargetOf plan (key.Route v p) (Some (row.Route r)) t → goal_of plan r ≡ Some g → goal_at t ≡ g
+target-goal plan v p r t g is e =
     goal_kept t.group t.way g (sym (uses-goal plan r g e) ∙ is.shares) is.groups
     (λ none. ap way_goal (is.way r refl) ∙ way_of_goal plan r g e (is.shares ∙ ap owners_of none))
 
 -- equal routes have equal goals
-pub goal-same : (p : Prefix) (g h : Goal) → thing.Route vrf.Default p g ≡ thing.Route vrf.Default p h → g ≡ h
-goal-same p g h is = cc
+pub goal-same : (v : Vrf) (p : Prefix) (g h : Goal) → thing.Route v p g ≡ thing.Route v p h → g ≡ h
+goal-same v p g h is = cc
 
 -- ---- the target of a call
 

@@ -2,6 +2,7 @@
 use Rattle.std.proofs.Common.{◌≡◌, ℕ, Bool, true, false, if◌then◌else◌, List, Option, Some, None, option_map, Result, Ok, Err, refl, sym, ap, ap₂, subst, ◌∙◌, Bor}
 use Rattle.std.proofs.lemmas.Option.{same_Some}
 use Rattle.swss_types.specs.declared.address.Prefix.{Prefix}
+use Rattle.swss_types.specs.declared.vrf.Vrf.{Vrf}
 use Rattle.table_schema.specs.Names.{names_of}
 use Rattle.table_schema.specs.Plan.{Ports}
 use Rattle.table_schema.specs.declared.key.Key.{Key}
@@ -32,17 +33,23 @@ use Rattle.route_orch.proofs.Starts.{started-due}
 abbrev pub rows : Option (Bor Row) → Option Row
 rows o = option_map (λ r. r.now) o
 
--- a row that fits the key of a route, where nothing that it names is missing, is a route's
-pub route-row : (plan : Ports) (names : Names) (k : Key) (o : Option Row) → IsRouteKey k → ((r : Row) → o ≡ Some r → first_unapplied names (names_of k r) ≡ None → Fits plan k r) → IsRouteRow o
-route-row plan names k None is fits = tt
-route-row plan names (key.Route p) (Some (row.Route r)) is fits = tt
-route-row plan names (key.Route p) (Some (row.Port r)) is fits = elim (fits (row.Port r) refl refl) [ ]
-route-row plan names (key.Route p) (Some row.Vlan) is fits = elim (fits row.Vlan refl refl) [ ]
-route-row plan names (key.Route p) (Some (row.Member t)) is fits = elim (fits (row.Member t) refl refl) [ ]
-route-row plan names (key.Route p) (Some row.Intf) is fits = elim (fits row.Intf refl refl) [ ]
-route-row plan names (key.Route p) (Some row.Addr) is fits = elim (fits row.Addr refl refl) [ ]
-route-row plan names (key.Route p) (Some (row.Neigh mac)) is fits = elim (fits (row.Neigh mac) refl refl) [ ]
-route-row plan names k (Some r) is fits = elim is [ ]
+-- a row that fits the key of a route is a route's
+fit-row : (plan : Ports) (k : Key) (r : Row) → IsRouteKey k → Fits plan k r → IsRouteRow (Some r)
+fit-row plan (key.Route v p) (row.Route r) is fits = tt
+fit-row plan (key.Route v p) _ is fits = elim fits [ ]
+fit-row plan k r is fits = elim is [ ]
+
+pub route-row : (plan : Ports) (k : Key) (o : Option Row) → IsRouteKey k → ((r : Row) → o ≡ Some r → Fits plan k r) → IsRouteRow o
+route-row plan k None is fits = tt
+route-row plan k (Some r) is fits = fit-row plan k r is (fits r refl)
+
+-- and so is the new row, where nothing hinders its operation
+pub new-route-row : (plan : Ports) (names : Names) (room : RoomState) (used : List ℕ) (worker : ℕ) (k : Key) (old new : Option Row) (res : Result (Unit {0}) Wait) (names' : Names) (room' : RoomState)
+    → res ≡ Ok tt → IsRouteKey k → MayStart plan names worker k old new → IsBegunBy plan names room used worker k old new res names' room' → IsRouteRow new
+new-route-row plan names room used worker k old None res names' room' began is may begun = tt
+new-route-row plan names room used worker k old (Some r) res names' room' began is may begun =
+    let told = subst (λ a. IsBegunBy plan names room used worker k old (Some r) a names' room') began begun in
+    fit-row plan k r is (may.new_fits r refl (none-missing (first_unapplied names (names_of k r)) _ told.0))
 
 -- the row for which a route stands is the old one at first
 stands-first : (o n : Option RouteRow) (was target : Target) → stands_for (first_step (option_map row.Route o) (option_map row.Route n) was target) o n ≡ o
@@ -56,47 +63,48 @@ stands-first (Some a) (Some r) was target = by (goal_eq.ghosts.eq (goal_at was) 
     by false = refl
 
 -- what is known at first makes the first operation
-first_made : (plan : Ports) (worker : ℕ) (k : Key) (old new : Option Row) (b : RouteBody) (n : Option RouteRow) (first : IsFirst plan worker k old new b) → option_map row.Route n ≡ new → operation_of_route (route_state n b) ≡ first_operation worker b.prefix b.applied n first.was b.target
+first_made : (plan : Ports) (worker : ℕ) (k : Key) (old new : Option Row) (b : RouteBody) (n : Option RouteRow) (first : IsFirst plan worker k old new b) → option_map row.Route n ≡ new → operation_of_route (route_state n b) ≡ first_operation worker b.vrf b.prefix b.applied n first.was b.target
 first_made plan worker k old new b n first is_new =
+    let v = b.vrf in
     let p = b.prefix in
     let o = b.applied in
     let step = first_step (option_map row.Route o) (option_map row.Route n) first.was b.target in
     let same : b.step ≡ step = first.step ∙ ap₂ (λ x y. first_step x y first.was b.target) (sym first.applied) (sym is_new) in
-    ap₂ (λ w r. record { worker = w; key = key.Route p; now = option_map row.Route (stands_for b.step o n); new = option_map row.Route n; due = route_due b.step p (goal_at b.target); leaves = option_map owner_for b.leaves; retires = option_map owner_for r }) first.worker_is first.retires
-    ∙ ap₂ (λ z l. record { worker = worker; key = key.Route p; now = option_map row.Route (stands_for z o n); new = option_map row.Route n; due = route_due z p (goal_at b.target); leaves = l; retires = None }) same first.leaves
-    ∙ ap (λ z. record { worker = worker; key = key.Route p; now = option_map row.Route z; new = option_map row.Route n; due = route_due step p (goal_at b.target); leaves = first_left (owners_of b.target.group) (owners_of first.was.group); retires = None }) (stands-first o n first.was b.target)
+    ap₂ (λ w r. record { worker = w; key = key.Route v p; now = option_map row.Route (stands_for b.step o n); new = option_map row.Route n; due = route_due b.step v p (goal_at b.target); leaves = option_map owner_for b.leaves; retires = option_map owner_for r }) first.worker_is first.retires
+    ∙ ap₂ (λ z l. record { worker = worker; key = key.Route v p; now = option_map row.Route (stands_for z o n); new = option_map row.Route n; due = route_due z v p (goal_at b.target); leaves = l; retires = None }) same first.leaves
+    ∙ ap (λ z. record { worker = worker; key = key.Route v p; now = option_map row.Route z; new = option_map row.Route n; due = route_due step v p (goal_at b.target); leaves = first_left (owners_of b.target.group) (owners_of first.was.group); retires = None }) (stands-first o n first.was b.target)
 
-module _ (plan : Ports) (names : Names) (worker : ℕ) (p : Prefix) (o n : Option RouteRow) (was target : Target) (of_was : IsTargetOf plan (key.Route p) (option_map row.Route o) was) (of_target : IsTargetOf plan (key.Route p) (option_map row.Route n) target) where
-  due_first : HasGoal plan o → HasGoal plan n → first_due plan names (key.Route p) (option_map row.Route o) (option_map row.Route n) ≡ route_due (first_step (option_map row.Route o) (option_map row.Route n) was target) p (goal_at target)
-  due_first a b = apart n of_target ∙ own-due plan p o n was target a b of_was of_target
+module _ (plan : Ports) (names : Names) (worker : ℕ) (v : Vrf) (p : Prefix) (o n : Option RouteRow) (was target : Target) (of_was : IsTargetOf plan (key.Route v p) (option_map row.Route o) was) (of_target : IsTargetOf plan (key.Route v p) (option_map row.Route n) target) where
+  due_first : HasGoal plan o → HasGoal plan n → first_due plan names (key.Route v p) (option_map row.Route o) (option_map row.Route n) ≡ route_due (first_step (option_map row.Route o) (option_map row.Route n) was target) v p (goal_at target)
+  due_first a b = apart n of_target ∙ own-due plan v p o n was target a b of_was of_target
     where
-      apart : (n : Option RouteRow) → IsTargetOf plan (key.Route p) (option_map row.Route n) target → first_due plan names (key.Route p) (option_map row.Route o) (option_map row.Route n) ≡ own_changes plan (key.Route p) (option_map row.Route o) (option_map row.Route n)
+      apart : (n : Option RouteRow) → IsTargetOf plan (key.Route v p) (option_map row.Route n) target → first_due plan names (key.Route v p) (option_map row.Route o) (option_map row.Route n) ≡ own_changes plan (key.Route v p) (option_map row.Route o) (option_map row.Route n)
       apart None is = refl
-      apart (Some r) is = built-apart names (uses_of plan (key.Route p) (Some (row.Route r))) target.group (own_changes plan (key.Route p) (option_map row.Route o) (Some (row.Route r))) is.shares is.groups
+      apart (Some r) is = built-apart names (uses_of plan (key.Route v p) (Some (row.Route r))) target.group (own_changes plan (key.Route v p) (option_map row.Route o) (Some (row.Route r))) is.shares is.groups
 
-  operation_first : HasGoal plan o → HasGoal plan n → started_operation plan names worker (key.Route p) (option_map row.Route o) (option_map row.Route n) ≡ first_operation worker p o n was target
+  operation_first : HasGoal plan o → HasGoal plan n → started_operation plan names worker (key.Route v p) (option_map row.Route o) (option_map row.Route n) ≡ first_operation worker v p o n was target
   operation_first a b =
-      let k = key.Route p in
+      let k = key.Route v p in
       let old = option_map row.Route o in
       let new = option_map row.Route n in
       let later = begun_names plan names worker k old new in
       let due = due_first a b in
-      let own = own-due plan p o n was target a b of_was of_target in
-      started-due later worker k old new (first_due plan names k old new) (leaving plan k old new) (λ none. none-left plan p o n a b (own ∙ sym due ∙ none))
+      let own = own-due plan v p o n was target a b of_was of_target in
+      started-due later worker k old new (first_due plan names k old new) (leaving plan k old new) (λ none. none-left plan v p o n a b (own ∙ sym due ∙ none))
       ∙ ap₂ (λ d l. record { worker = worker; key = k; now = old; new = new; due = d; leaves = l; retires = None }) due (ap₂ first_left of_target.shares of_was.shares)
 
   -- what began, with the operation
-  pub started : (room : RoomState) (used : List ℕ) (names' : Names) (room' : RoomState) (res : Result (Unit {0}) Wait) → MayStart plan names worker (key.Route p) (option_map row.Route o) (option_map row.Route n)
-      → IsBegunBy plan names room used worker (key.Route p) (option_map row.Route o) (option_map row.Route n) res names' room'
-      → IsStartedBy plan names room used worker (key.Route p) (option_map row.Route o) (option_map row.Route n) (flown (first_operation worker p o n was target) res) names' room'
+  pub started : (room : RoomState) (used : List ℕ) (names' : Names) (room' : RoomState) (res : Result (Unit {0}) Wait) → MayStart plan names worker (key.Route v p) (option_map row.Route o) (option_map row.Route n)
+      → IsBegunBy plan names room used worker (key.Route v p) (option_map row.Route o) (option_map row.Route n) res names' room'
+      → IsStartedBy plan names room used worker (key.Route v p) (option_map row.Route o) (option_map row.Route n) (flown (first_operation worker v p o n was target) res) names' room'
   started room used names' room' (Err w) may begun = begun
   started room used names' room' (Ok x) may (free, is, places) =
-      let found = fit-goal plan p n (λ r e. may.new_fits r e (named n free r e)) in
-      (free, sym (operation_first (fit-goal plan p o may.old_fits) found), is, places)
+      let found = fit-goal plan v p n (λ r e. may.new_fits r e (named n free r e)) in
+      (free, sym (operation_first (fit-goal plan v p o may.old_fits) found), is, places)
     where
-      named : (n : Option RouteRow) → wait_of plan names room used worker (key.Route p) (option_map row.Route o) (option_map row.Route n) ≡ None → (r : Row) → option_map row.Route n ≡ Some r → first_unapplied names (names_of (key.Route p) r) ≡ None
+      named : (n : Option RouteRow) → wait_of plan names room used worker (key.Route v p) (option_map row.Route o) (option_map row.Route n) ≡ None → (r : Row) → option_map row.Route n ≡ Some r → first_unapplied names (names_of (key.Route v p) r) ≡ None
       named None none r e = absurd cc
-      named (Some q) none r e = subst (λ z. first_unapplied names (names_of (key.Route p) z) ≡ None) (same_Some (row.Route q) r e) (none-missing (first_unapplied names (names_of (key.Route p) (row.Route q))) _ none)
+      named (Some q) none r e = subst (λ z. first_unapplied names (names_of (key.Route v p) z) ≡ None) (same_Some (row.Route q) r e) (none-missing (first_unapplied names (names_of (key.Route v p) (row.Route q))) _ none)
 
 abbrev Turns : Ports → Names → RoomState → List ℕ → ℕ → Operation → Result (Unit {0}) Wait → Names → RoomState → Key → Option Row → Option Row → Type 0
 Turns plan names room used worker flight res names' room' k old new = MayStart plan names worker k old new → IsBegunBy plan names room used worker k old new res names' room' → IsStartedBy plan names room used worker k old new (flown flight res) names' room'
@@ -106,12 +114,13 @@ pub started-as : (plan : Ports) (names : Names) (room : RoomState) (used : List 
     → IsFirst plan worker k old new b → option_map row.Route n ≡ new → answer ≡ flown (operation_of_route (route_state n b)) res → MayStart plan names worker k old new
     → IsBegunBy plan names room used worker k old new res names' room' → IsStartedBy plan names room used worker k old new answer names' room'
 started-as plan names room used worker k old new b n res answer names' room' first is_new gave =
+    let v = b.vrf in
     let p = b.prefix in
     let o = b.applied in
     let was = first.was in
-    let turns = Turns plan names room used worker (first_operation worker p o n was b.target) res names' room' in
+    let turns = Turns plan names room used worker (first_operation worker v p o n was b.target) res names' room' in
     subst (λ a. MayStart plan names worker k old new → IsBegunBy plan names room used worker k old new res names' room' → IsStartedBy plan names room used worker k old new a names' room') (sym (gave ∙ ap (λ f. flown f res) (first_made plan worker k old new b n first is_new)))
     (subst (λ z. IsTargetOf plan z old was → IsTargetOf plan z new b.target → turns z old new) (sym first.key_is)
-    (subst (λ z. IsTargetOf plan (key.Route p) z was → IsTargetOf plan (key.Route p) new b.target → turns (key.Route p) z new) first.applied
-    (subst (λ z. IsTargetOf plan (key.Route p) (option_map row.Route o) was → IsTargetOf plan (key.Route p) z b.target → turns (key.Route p) (option_map row.Route o) z) is_new
-    (λ x y. started plan names worker p o n was b.target x y room used names' room' res))) first.of_was first.of_target)
+    (subst (λ z. IsTargetOf plan (key.Route v p) z was → IsTargetOf plan (key.Route v p) new b.target → turns (key.Route v p) z new) first.applied
+    (subst (λ z. IsTargetOf plan (key.Route v p) (option_map row.Route o) was → IsTargetOf plan (key.Route v p) z b.target → turns (key.Route v p) (option_map row.Route o) z) is_new
+    (λ x y. started plan names worker v p o n was b.target x y room used names' room' res))) first.of_was first.of_target)

@@ -26,7 +26,7 @@ use Rattle.route_orch.specs.declared.target.Way.{Way}
 use Rattle.route_orch.specs.declared.target.Way.TheVariants as way
 
 abbrev pub IsRouteKey : Key → Type 0
-IsRouteKey (key.Route prefix) = Unit {0}
+IsRouteKey (key.Route v prefix) = Unit {0}
 IsRouteKey _ = ⊥
 
 -- a row is a route's, where there is one

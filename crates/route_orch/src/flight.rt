@@ -10,7 +10,7 @@ ghost use Rattle.orch_flight.specs.Sharing.{MayStart, owner_for};
 ghost use Rattle.orch_flight.specs.Starting.{IsStartedBy, answered, left_names, retired_by};
 ghost use Rattle.orch_flight.specs.Taking.{IsTook, MayTake};
 ghost use Rattle.route_orch.specs.Targets.{AreGroups, IsRouteKey, IsRouteRow};
-ghost use Rattle.route_orch.specs.Routes.{IsFirst, first_step, group_hops, group_owners, later_step, operation_of_route};
+ghost use Rattle.route_orch.specs.Routes.{IsFirst, first_step, group_hops, group_owners, later_step, operation_of_route, router_vid};
 
 use crate::starting::begin;
 use crate::target::{Target, left};
@@ -20,7 +20,7 @@ use sai_types::{Attr, Body, Call, Entry, Hops, KindCounts, Vid};
 use std::alloc::Global;
 use std::marker::Model;
 use switch_model::Wait;
-use swss_types::{OutOfMemory, Prefix};
+use swss_types::{OutOfMemory, Prefix, Vrf};
 use table_schema::{Key, PortPlan, RouteRow, Row};
 
 /// How far a route's operation is.
@@ -52,6 +52,7 @@ pub struct RouteFlight {
 #[derive(Debug, Drop)]
 struct RouteBody {
     worker: u32,
+    vrf: Vrf,
     prefix: Prefix,
     // the row before, and where the new one points
     applied: Option<RouteRow>,
@@ -121,17 +122,18 @@ impl RouteFlight {
         ensures { IfOk result (λ next. (plan : Ports) → IsOver plan self.now.operation → IsNextOf plan reg.now self.now.operation next) }
     {
         let body = self.body.as_ref();
+        let vr = router_vid(reg, body.vrf);
         match (body.step, &self.wanted) {
             (RouteStep::Make, Some(row)) => Ok(Next::Call(Call::Create(Body::Route {
-                vr: None,
+                vr,
                 prefix: body.prefix,
                 to: body.target.to(reg, row),
             }))),
             (RouteStep::Set, Some(row)) => {
                 let to = body.target.to(reg, row);
-                Ok(Next::Call(Call::Set(Entry::Route(None, body.prefix), Attr::To(to))))
+                Ok(Next::Call(Call::Set(Entry::Route(vr, body.prefix), Attr::To(to))))
             }
-            (RouteStep::Take, _) => Ok(Next::Call(Call::Remove(Entry::Route(None, body.prefix)))),
+            (RouteStep::Take, _) => Ok(Next::Call(Call::Remove(Entry::Route(vr, body.prefix)))),
             (RouteStep::Make | RouteStep::Set, None) => Ok(Next::End),
             (RouteStep::Changed | RouteStep::Ended, _) => Ok(Next::End),
         }
@@ -146,7 +148,7 @@ impl RouteFlight {
     {
         self.body.step = later_step(self.body.step);
         if let Some(name) = self.body.leaves.take() {
-            self.body.retires = part(reg, self.body.worker, self.body.prefix, name);
+            self.body.retires = part(reg, self.body.worker, self.body.vrf, self.body.prefix, name);
         }
     }
 
@@ -200,10 +202,9 @@ fn body_of(
 ) -> Result<Box<RouteBody>, OutOfMemory>
     requires key { IsRouteKey key.now }
     requires old { IsRouteRow (option_map (λ r. r.now) old) }
-    requires new { IsRouteRow (option_map (λ r. r.now) new) }
     ensures { IfOk result (λ body. IsFirst plan.now worker key.now (option_map (λ r. r.now) old.entry) (option_map (λ r. r.now) new.entry) body.value) }
 {
-    let Key::Route(prefix) = key else {
+    let Key::Route(vrf, prefix) = key else {
         unreachable!();
     };
     let was = Target::of(alloc, plan, key, old)?;
@@ -213,6 +214,7 @@ fn body_of(
     let leaves = left(was.group, &target.group);
     let body = RouteBody {
         worker,
+        vrf: *vrf,
         prefix: *prefix,
         applied,
         target,
@@ -221,6 +223,16 @@ fn body_of(
         retires: None,
     };
     Ok(Box::new(alloc, body)?)
+}
+
+/// The identifier of a virtual router, which the default one has not.
+fn router_vid(reg: &Registry, vrf: Vrf) -> Option<Vid>
+    ensures { result ≡ router_vid reg.now vrf }
+{
+    match vrf {
+        Vrf::Default => None,
+        Vrf::Named(label) => reg.vid_of(&Name::Row(Key::Vrf(label))),
+    }
 }
 
 /// The first step of a route's operation.
@@ -254,14 +266,14 @@ fn later_step(step: RouteStep) -> RouteStep
 }
 
 /// A route leaves its old group: the group, where the route was the last.
-fn part(reg: &mut Registry, worker: u32, prefix: Prefix, group: Name) -> Option<Name>
+fn part(reg: &mut Registry, worker: u32, vrf: Vrf, prefix: Prefix, group: Name) -> Option<Name>
     requires live { state_of reg.old group ≡ state.Live }
     requires groups { AreGroups (Some group) }
-    ensures names { reg.new ≡ left_names reg.old worker (Key.Route prefix) (owner_for group) }
-    ensures last { option_map owner_for result ≡ retired_by reg.old worker (Key.Route prefix) (owner_for group) }
+    ensures names { reg.new ≡ left_names reg.old worker (Key.Route vrf prefix) (owner_for group) }
+    ensures last { option_map owner_for result ≡ retired_by reg.old worker (Key.Route vrf prefix) (owner_for group) }
     ensures groups { AreGroups result }
 {
-    if leave(reg, worker, &Key::Route(prefix), &group) {
+    if leave(reg, worker, &Key::Route(vrf, prefix), &group) {
         Some(group)
     } else {
         None

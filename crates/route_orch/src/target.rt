@@ -4,7 +4,7 @@ ghost use Rattle.sai_types.specs.contracts.thing.GoalPartialEq.TheImpl as goal_e
 ghost use Rattle.orch_flight.specs.Calling.{HaveIds, pointed};
 ghost use Rattle.orch_flight.specs.Sharing.{owner_for, owners_of};
 ghost use Rattle.orch_flight.specs.Starting.{first_left};
-ghost use Rattle.route_orch.specs.Targets.{AreGroups, HasSeveral, IsRouteKey, IsRouteRow, IsTargetOf, IsToFirst, PointsTo, goal_at, row_way};
+ghost use Rattle.route_orch.specs.Targets.{AreGroups, HasSeveral, IsRouteKey, IsTargetOf, IsToFirst, PointsTo, goal_at, row_way};
 
 use orch_flight::{base_of, shared, vid};
 use ref_counts::{Name, Registry};
@@ -34,15 +34,14 @@ pub struct Target {
 }
 
 impl Target {
-    /// Where the row of a route points, where there is one.
+    /// Where the row of a route points, where there is one. A row of another kind points nowhere.
     pub fn of(
         alloc: Global,
         plan: &PortPlan,
         key: &Key,
         row: Option<&Row>,
     ) -> Result<Target, OutOfMemory>
-        requires key { IsRouteKey key.now }
-        requires row { IsRouteRow (option_map (λ r. r.now) row) }
+        requires { IsRouteKey key.now }
         ensures { IfOk result (λ target. IsTargetOf plan.now key.now (option_map (λ r. r.now) row.entry) target) }
     {
         let Some(row) = row else {
@@ -61,7 +60,10 @@ impl Target {
                 let way = own_way(plan, route);
                 Ok(Target { group, way })
             }
-            _ => unreachable!(),
+            _ => Ok(Target {
+                group: None,
+                way: Way::Drop,
+            }),
         }
     }
 

@@ -67,6 +67,7 @@ module _ (plan : Ports) (is : IsPlan plan) where
   own (key.Port port) (row.Port r) t planned h =
       only (IsOwn (key.Port port)) t _ (ap (option_map (λ p. owner.OfRow (key.Port p))) (port_by port (first_lane r.lanes) (ap (option_map first_lane) planned))) (from_in (lane_of plan port) _ t h).2
   own (key.Vlan vlan) row.Vlan t planned h = only (IsOwn (key.Vlan vlan)) t (thing.Vlan vlan) refl h
+  own (key.Vrf label) row.Vrf t planned h = only (IsOwn (key.Vrf label)) t (thing.VirtualRouter label) refl h
   own (key.Member vlan port) (row.Member tagging) t planned h =
       let m = from_in (lane_of plan port) _ t h in
       only (IsOwn (key.Member vlan port)) t (thing.VlanMember vlan m.0 tagging) (ap (option_map (λ p. owner.OfRow (key.Member vlan p))) (port_by port m.0 m.1)) m.2
@@ -77,9 +78,9 @@ module _ (plan : Ports) (is : IsPlan plan) where
       let m = from_in (base_of plan n) _ t h in
       let named = ap (option_map (λ x. owner.OfRow (key.Neigh x ip))) (interface_by n m.0 m.1) in
       two (IsOwn (key.Neigh n ip)) t (thing.Neighbor (record { on = m.0; ip = ip }) mac) (thing.NextHop (record { on = m.0; ip = ip })) named named m.2
-  own (key.Route prefix) (row.Route r) t planned h =
+  own (key.Route v prefix) (row.Route r) t planned h =
       let m = from_in (goal_of plan r) _ t h in
-      only (IsOwn (key.Route prefix)) t (thing.Route vrf.Default prefix m.0) refl m.2
+      only (IsOwn (key.Route v prefix)) t (thing.Route v prefix m.0) refl m.2
   own _ _ t planned h = elim h [ ]
 
   member_own : (hops some : List WHop) (t : Thing) → IsIn t (members_of hops some) → owner_of plan (name_of t) ≡ Some (owner.Group hops)

@@ -4,6 +4,7 @@ use Rattle.swss_types.specs.declared.address.Ip.{Ip}
 use Rattle.swss_types.specs.declared.address.Prefix.{Prefix}
 use Rattle.swss_types.specs.declared.interface.IfName.{IfName}
 use Rattle.swss_types.specs.declared.interface.IfName.TheVariants as name
+use Rattle.swss_types.specs.declared.vrf.Vrf.{Vrf}
 use Rattle.swss_types.specs.declared.vrf.Vrf.TheVariants as vrf
 use Rattle.table_schema.specs.Plan.{Ports}
 use Rattle.table_schema.specs.declared.key.Key.{Key}
@@ -85,36 +86,37 @@ address_split plan (name.Ethernet port) ip = lane_address ip (lane_of plan port)
 address_split plan (name.Vlan vlan) ip = address_alone ip
 address_split plan (name.Loopback number) ip = address_alone ip
 
-group_split : (prefix : Prefix) (group : List WHop) → Splits (thing.Route vrf.Default prefix (goal.Group group) ∷ thing.Group group ∷ members_of group group) (thing.Route vrf.Default prefix (goal.Group group) ∷ []) (Group group ∷ [])
-group_split prefix group = with_one (thing.Route vrf.Default prefix (goal.Group group) ∷ []) (thing.Route vrf.Default prefix (goal.Group group) ∷ thing.Group group ∷ members_of group group) (Group group) parts (λ x h. inr h) mine
+group_split : (v : Vrf) (prefix : Prefix) (group : List WHop) → Splits (thing.Route v prefix (goal.Group group) ∷ thing.Group group ∷ members_of group group) (thing.Route v prefix (goal.Group group) ∷ []) (Group group ∷ [])
+group_split v prefix group = with_one (thing.Route v prefix (goal.Group group) ∷ []) (thing.Route v prefix (goal.Group group) ∷ thing.Group group ∷ members_of group group) (Group group) parts (λ x h. inr h) mine
   where
-    parts : (x : Thing) → IsIn x (thing.Route vrf.Default prefix (goal.Group group) ∷ thing.Group group ∷ members_of group group) → IsIn x (thing.Group group ∷ members_of group group) ⊎ IsIn x (thing.Route vrf.Default prefix (goal.Group group) ∷ [])
+    parts : (x : Thing) → IsIn x (thing.Route v prefix (goal.Group group) ∷ thing.Group group ∷ members_of group group) → IsIn x (thing.Group group ∷ members_of group group) ⊎ IsIn x (thing.Route v prefix (goal.Group group) ∷ [])
     parts x (inl is) = inr (inl is)
     parts x (inr h) = inl h
 
-    mine : (x : Thing) → IsIn x (thing.Route vrf.Default prefix (goal.Group group) ∷ []) → IsIn x (thing.Route vrf.Default prefix (goal.Group group) ∷ thing.Group group ∷ members_of group group)
+    mine : (x : Thing) → IsIn x (thing.Route v prefix (goal.Group group) ∷ []) → IsIn x (thing.Route v prefix (goal.Group group) ∷ thing.Group group ∷ members_of group group)
     mine x (inl is) = inl is
     mine x (inr h) = elim h [ ]
 
-from_hops_split : (prefix : Prefix) (o : Option (List WHop)) → Splits (from_hops prefix o) (from (goal_to o) (λ g. thing.Route vrf.Default prefix g ∷ [])) (group_by o)
-from_hops_split prefix None = all_own []
-from_hops_split prefix (Some []) = all_own []
-from_hops_split prefix (Some (hop ∷ [])) = all_own (thing.Route vrf.Default prefix (goal.Via hop.hop) ∷ [])
-from_hops_split prefix (Some (hop ∷ next ∷ more)) = group_split prefix (hop ∷ next ∷ more)
+from_hops_split : (v : Vrf) (prefix : Prefix) (o : Option (List WHop)) → Splits (from_hops v prefix o) (from (goal_to o) (λ g. thing.Route v prefix g ∷ [])) (group_by o)
+from_hops_split v prefix None = all_own []
+from_hops_split v prefix (Some []) = all_own []
+from_hops_split v prefix (Some (hop ∷ [])) = all_own (thing.Route v prefix (goal.Via hop.hop) ∷ [])
+from_hops_split v prefix (Some (hop ∷ next ∷ more)) = group_split v prefix (hop ∷ next ∷ more)
 
 -- what a row stands for on the chip is its own, and what it uses
 pub things-split : (plan : Ports) (k : Key) (r : Row) → Splits (things_of plan k r) (own_things plan k r) (uses plan k r)
 things-split plan (key.Port p) (row.Port r) = lane_own _ (lane_of plan p)
 things-split plan (key.Vlan v) row.Vlan = all_own (thing.Vlan v ∷ [])
+things-split plan (key.Vrf n) row.Vrf = all_own (thing.VirtualRouter n ∷ [])
 things-split plan (key.Member v p) (row.Member tagging) = member_split v (λ lane. thing.VlanMember v lane tagging) (lane_of plan p)
 things-split plan (key.Intf n) row.Intf = base_own _ (base_of plan n)
 things-split plan (key.Addr n ip len) row.Addr = address_split plan n ip
 things-split plan (key.Neigh n ip) (row.Neigh mac) = base_own _ (base_of plan n)
-things-split plan (key.Route prefix) (row.Route route.Drop) = all_own (thing.Route vrf.Default prefix goal.Drop ∷ [])
-things-split plan (key.Route prefix) (row.Route (route.Direct n)) = direct (base_of plan n)
+things-split plan (key.Route v prefix) (row.Route route.Drop) = all_own (thing.Route v prefix goal.Drop ∷ [])
+things-split plan (key.Route v prefix) (row.Route (route.Direct n)) = direct (base_of plan n)
   where
-    direct : (o : Option Base) → Splits (from_base (λ b. thing.Route vrf.Default prefix (goal.Direct b) ∷ []) o) (from (option_map goal.Direct o) (λ g. thing.Route vrf.Default prefix g ∷ [])) []
+    direct : (o : Option Base) → Splits (from_base (λ b. thing.Route v prefix (goal.Direct b) ∷ []) o) (from (option_map goal.Direct o) (λ g. thing.Route v prefix g ∷ [])) []
     direct None = all_own []
-    direct (Some b) = all_own (thing.Route vrf.Default prefix (goal.Direct b) ∷ [])
-things-split plan (key.Route prefix) (row.Route (route.Hops hops)) = from_hops_split prefix (hops_of plan hops)
+    direct (Some b) = all_own (thing.Route v prefix (goal.Direct b) ∷ [])
+things-split plan (key.Route v prefix) (row.Route (route.Hops hops)) = from_hops_split v prefix (hops_of plan hops)
 things-split plan _ _ = all_own []

@@ -1,11 +1,13 @@
--- three things that rows share, worked out by computation: nothing cites them, and they show that the definitions say what is meant
-use Rattle.std.proofs.Common.{◌≡◌, ℕ, ◌+◌, Bool, true, false, List, [], ◌∷◌, None, Some, refl}
+-- three things that rows share, and a router with a route, worked out by computation: nothing cites them, and they show that the definitions say what is meant
+use Rattle.std.proofs.Common.{◌≡◌, ℕ, ◌+◌, Bool, true, false, List, [], ◌∷◌, None, Some, codes, refl}
 use Rattle.swss_types.specs.declared.address.Family.TheVariants.{V4}
 use Rattle.swss_types.specs.declared.address.Ip.{Ip}
 use Rattle.swss_types.specs.declared.address.Prefix.{Prefix}
 use Rattle.swss_types.specs.declared.interface.IfName.TheVariants as on
 use Rattle.swss_types.specs.declared.tagging.Tagging.TheVariants.{Untagged}
 use Rattle.swss_types.specs.declared.vrf.Vrf.TheVariants as vrf
+use Rattle.swss_types.specs.declared.vrf.VrfName.{VrfName}
+use Rattle.swss_types.specs.VrfNames.{filled_label}
 use Rattle.table_schema.specs.Plan.{Ports}
 use Rattle.table_schema.specs.declared.key.Key.TheVariants as key
 use Rattle.table_schema.specs.declared.row.Row.{Row}
@@ -82,14 +84,28 @@ other = record { hop = record { on = base.Port 4; ip = ten 3 }; weight = 1 }
 abbrev group : List WHop
 group = one ∷ other ∷ []
 
-first_route : changes_of ports (key.Route (net 256)) None (Some hops) alone ≡ Make (thing.Group group) ∷ Make (thing.GroupMember group one) ∷ Make (thing.GroupMember group other) ∷ Make (thing.Route vrf.Default (net 256) (goal.Group group)) ∷ []
+first_route : changes_of ports (key.Route vrf.Default (net 256)) None (Some hops) alone ≡ Make (thing.Group group) ∷ Make (thing.GroupMember group one) ∷ Make (thing.GroupMember group other) ∷ Make (thing.Route vrf.Default (net 256) (goal.Group group)) ∷ []
 first_route = refl
 
-second_route : changes_of ports (key.Route (net 512)) None (Some hops) shared ≡ Make (thing.Route vrf.Default (net 512) (goal.Group group)) ∷ []
+second_route : changes_of ports (key.Route vrf.Default (net 512)) None (Some hops) shared ≡ Make (thing.Route vrf.Default (net 512) (goal.Group group)) ∷ []
 second_route = refl
 
-route_turns : changes_of ports (key.Route (net 256)) (Some hops) (Some (row.Route route.Drop)) shared ≡ Set (thing.Route vrf.Default (net 256) goal.Drop) ∷ []
+route_turns : changes_of ports (key.Route vrf.Default (net 256)) (Some hops) (Some (row.Route route.Drop)) shared ≡ Set (thing.Route vrf.Default (net 256) goal.Drop) ∷ []
 route_turns = refl
 
-last_route_goes : changes_of ports (key.Route (net 512)) (Some hops) None alone ≡ Take (name.Route vrf.Default (net 512)) ∷ Take (name.GroupMember group one) ∷ Take (name.GroupMember group other) ∷ Take (name.Group group) ∷ []
+last_route_goes : changes_of ports (key.Route vrf.Default (net 512)) (Some hops) None alone ≡ Take (name.Route vrf.Default (net 512)) ∷ Take (name.GroupMember group one) ∷ Take (name.GroupMember group other) ∷ Take (name.Group group) ∷ []
 last_route_goes = refl
+
+-- ---- a virtual router, and a route in it
+
+abbrev red : VrfName
+red = record { 0 = filled_label (codes "red") }
+
+router_is_made : changes_of ports (key.Vrf red) None (Some row.Vrf) alone ≡ Make (thing.VirtualRouter red) ∷ []
+router_is_made = refl
+
+router_goes : changes_of ports (key.Vrf red) (Some row.Vrf) None alone ≡ Take (name.VirtualRouter red) ∷ []
+router_goes = refl
+
+route_in_router : changes_of ports (key.Route (vrf.Named red) (net 512)) None (Some hops) shared ≡ Make (thing.Route (vrf.Named red) (net 512) (goal.Group group)) ∷ []
+route_in_router = refl

@@ -35,11 +35,11 @@ abbrev pub interface_on : Ports → Base → Option IfName
 interface_on plan (base.Port lane) = option_map on.Ethernet (port_named plan lane)
 interface_on plan (base.Vlan vlan) = Some (on.Vlan vlan)
 
--- the owner of what has this name: rows make no virtual router, and routes in the default one alone
+-- the owner of what has this name
 abbrev pub owner_of : Ports → ThingName → Option Owner
 owner_of plan (name.Port lane) = option_map (λ p. OfRow (key.Port p)) (port_named plan lane)
 owner_of plan (name.Vlan vlan) = Some (OfRow (key.Vlan vlan))
-owner_of plan (name.VirtualRouter label) = None
+owner_of plan (name.VirtualRouter label) = Some (OfRow (key.Vrf label))
 owner_of plan (name.BridgePort lane) = Some (Bridge lane)
 owner_of plan (name.VlanMember vlan lane) = option_map (λ p. OfRow (key.Member vlan p)) (port_named plan lane)
 owner_of plan (name.Rif b) = option_map (λ n. OfRow (key.Intf n)) (interface_on plan b)
@@ -48,7 +48,7 @@ owner_of plan (name.Neighbor hop) = option_map (λ n. OfRow (key.Neigh n hop.ip)
 owner_of plan (name.NextHop hop) = option_map (λ n. OfRow (key.Neigh n hop.ip)) (interface_on plan hop.on)
 owner_of plan (name.Group hops) = Some (Group hops)
 owner_of plan (name.GroupMember hops hop) = Some (Group hops)
-owner_of plan (name.Route v prefix) = Some (OfRow (key.Route prefix))
+owner_of plan (name.Route v prefix) = Some (OfRow (key.Route v prefix))
 
 -- where a route's row points
 abbrev pub goal_to : Option (List WHop) → Option Goal
@@ -70,10 +70,11 @@ from (Some x) f = f x
 abbrev pub own_things : Ports → Key → Row → List Thing
 own_things plan (key.Port port) (row.Port r) = from (lane_of plan port) (λ lane. thing.Port (record { lanes = r.lanes; speed = r.speed; mtu = r.mtu; up = r.up }) ∷ [])
 own_things plan (key.Vlan vlan) row.Vlan = thing.Vlan vlan ∷ []
+own_things plan (key.Vrf label) row.Vrf = thing.VirtualRouter label ∷ []
 own_things plan (key.Member vlan port) (row.Member tagging) = from (lane_of plan port) (λ lane. thing.VlanMember vlan lane tagging ∷ [])
 own_things plan (key.Intf n) row.Intf = from (base_of plan n) (λ b. thing.Rif b vrf.Default ∷ [])
 own_things plan (key.Neigh n ip) (row.Neigh mac) = from (base_of plan n) (λ b. thing.Neighbor (record { on = b; ip = ip }) mac ∷ thing.NextHop (record { on = b; ip = ip }) ∷ [])
-own_things plan (key.Route prefix) (row.Route r) = from (goal_of plan r) (λ g. thing.Route vrf.Default prefix g ∷ [])
+own_things plan (key.Route v prefix) (row.Route r) = from (goal_of plan r) (λ g. thing.Route v prefix g ∷ [])
 own_things plan _ _ = []
 
 -- the row of a port has the lanes that the plan gives the port

@@ -46,7 +46,7 @@ address_uses plan (name.Loopback number) ip = Own vrf.Default ip ∷ []
 abbrev pub uses : Ports → Key → Row → List Owner
 uses plan (key.Member vlan port) (row.Member tagging) = from (lane_of plan port) (λ lane. Bridge lane ∷ [])
 uses plan (key.Addr n ip len) row.Addr = address_uses plan n ip
-uses plan (key.Route prefix) (row.Route r) = route_uses plan r
+uses plan (key.Route v prefix) (row.Route r) = route_uses plan r
 uses plan _ _ = []
 
 -- a thing is one of a row's own, or of what it uses

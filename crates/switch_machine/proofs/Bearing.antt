@@ -1,7 +1,7 @@
 -- of a route's changes one at most bears on where packets go
 use Rattle.std.proofs.Common.{◌≡◌, ◌⊎◌, ◌∷◌, ◌++◌, ◌∙◌, inl, inr, Bool, true, false, List, [], Option, None, Some, if◌then◌else◌, refl, sym, ap, ap₂, subst}
 use Rattle.swss_types.specs.declared.address.Prefix.{Prefix}
-use Rattle.swss_types.specs.declared.vrf.Vrf.TheVariants as vrf
+use Rattle.swss_types.specs.declared.vrf.Vrf.{Vrf}
 use Rattle.table_schema.specs.Plan.{Ports}
 use Rattle.table_schema.specs.declared.key.Key.TheVariants as key
 use Rattle.table_schema.specs.declared.row.Row.{Row}
@@ -83,12 +83,12 @@ unshared_in used others (o ∷ os) groups = by _ (unshared_in used others os (λ
     by false rest p (inl e) = groups p (inl e)
     by false rest p (inr h) = rest p h
 
-pub route_groups : (plan : Ports) (prefix : Prefix) (r : Option Row) → AreGroups (uses_of plan (key.Route prefix) r)
-route_groups plan prefix None o h = elim h [ ]
-route_groups plan prefix (Some (row.Route (route.Hops hops))) o h = let x = group_use o (hops_of plan hops) h in (x.0, x.2)
-route_groups plan prefix (Some (row.Route route.Drop)) o h = elim h [ ]
-route_groups plan prefix (Some (row.Route (route.Direct n))) o h = elim h [ ]
-route_groups plan prefix (Some _) o h = elim h [ ]
+pub route_groups : (plan : Ports) (v : Vrf) (prefix : Prefix) (r : Option Row) → AreGroups (uses_of plan (key.Route v prefix) r)
+route_groups plan v prefix None o h = elim h [ ]
+route_groups plan v prefix (Some (row.Route (route.Hops hops))) o h = let x = group_use o (hops_of plan hops) h in (x.0, x.2)
+route_groups plan v prefix (Some (row.Route route.Drop)) o h = elim h [ ]
+route_groups plan v prefix (Some (row.Route (route.Direct n))) o h = elim h [ ]
+route_groups plan v prefix (Some _) o h = elim h [ ]
 
 build_apart : (os : List Owner) (rest : List Change) → build_all os rest ≡ build_all os [] ++ rest
 build_apart [] rest = refl
@@ -96,57 +96,57 @@ build_apart (o ∷ os) rest = ap (make_all (shared_things o)) (build_apart os re
 
 -- ---- the route itself
 
-module _ (plan : Ports) (prefix : Prefix) where
+module _ (plan : Ports) (v : Vrf) (prefix : Prefix) where
   abbrev IsOne : List Thing → Type 0
-  IsOne ts = (ts ≡ []) ⊎ ((g : Goal) × (ts ≡ thing.Route vrf.Default prefix g ∷ []))
+  IsOne ts = (ts ≡ []) ⊎ ((g : Goal) × (ts ≡ thing.Route v prefix g ∷ []))
 
-  from_goal : (o : Option Goal) → IsOne (from o (λ g. thing.Route vrf.Default prefix g ∷ []))
+  from_goal : (o : Option Goal) → IsOne (from o (λ g. thing.Route v prefix g ∷ []))
   from_goal None = inl refl
   from_goal (Some g) = inr (g, refl)
 
-  own_one : (r : Row) → IsOne (own_things plan (key.Route prefix) r)
+  own_one : (r : Row) → IsOne (own_things plan (key.Route v prefix) r)
   own_one (row.Route r) = from_goal (goal_of plan r)
   own_one _ = inl refl
 
   abbrev IsOnce : List Change → Type 0
-  IsOnce cs = (cs ≡ []) ⊎ ((c : Change) × (cs ≡ c ∷ []) × (changed_name c ≡ name.Route vrf.Default prefix))
+  IsOnce cs = (cs ≡ []) ⊎ ((c : Change) × (cs ≡ c ∷ []) × (changed_name c ≡ name.Route v prefix))
 
   made : (ts : List Thing) → IsOne ts → IsOnce (make_all ts [])
   made ts (inl e) = inl (ap (λ z. make_all z []) e)
-  made ts (inr (g, e)) = inr (Make (thing.Route vrf.Default prefix g), ap (λ z. make_all z []) e, refl)
+  made ts (inr (g, e)) = inr (Make (thing.Route v prefix g), ap (λ z. make_all z []) e, refl)
 
   taken : (ts : List Thing) → IsOne ts → IsOnce (take_all ts [])
   taken ts (inl e) = inl (ap (λ z. take_all z []) e)
-  taken ts (inr (g, e)) = inr (Take (name.Route vrf.Default prefix), ap (λ z. take_all z []) e, refl)
+  taken ts (inr (g, e)) = inr (Take (name.Route v prefix), ap (λ z. take_all z []) e, refl)
 
-  set_one : (b : Bool) (g : Goal) → IsOnce (if b then [] else Set (thing.Route vrf.Default prefix g) ∷ [])
+  set_one : (b : Bool) (g : Goal) → IsOnce (if b then [] else Set (thing.Route v prefix g) ∷ [])
   set_one true g = inl refl
-  set_one false g = inr (Set (thing.Route vrf.Default prefix g), refl, refl)
+  set_one false g = inr (Set (thing.Route v prefix g), refl, refl)
 
   sets : (ts us : List Thing) → IsOne ts → IsOne us → IsOnce (set_all ts us)
   sets ts us (inl e) _ = inl (ap (λ z. set_all z us) e)
   sets ts us (inr (g, e)) (inl h) = inl (ap₂ set_all e h)
-  sets ts us (inr (g, e)) (inr (i, h)) = subst IsOnce (sym (ap₂ set_all e h)) (set_one (same_thing (thing.Route vrf.Default prefix g) (thing.Route vrf.Default prefix i)) i)
+  sets ts us (inr (g, e)) (inr (i, h)) = subst IsOnce (sym (ap₂ set_all e h)) (set_one (same_thing (thing.Route v prefix g) (thing.Route v prefix i)) i)
 
-  own_once : (old new : Option Row) → IsOnce (own_changes plan (key.Route prefix) old new)
+  own_once : (old new : Option Row) → IsOnce (own_changes plan (key.Route v prefix) old new)
   own_once None None = inl refl
-  own_once None (Some r) = made (own_things plan (key.Route prefix) r) (own_one r)
-  own_once (Some a) None = taken (own_things plan (key.Route prefix) a) (own_one a)
-  own_once (Some a) (Some r) = sets (own_things plan (key.Route prefix) a) (own_things plan (key.Route prefix) r) (own_one a) (own_one r)
+  own_once None (Some r) = made (own_things plan (key.Route v prefix) r) (own_one r)
+  own_once (Some a) None = taken (own_things plan (key.Route v prefix) a) (own_one a)
+  own_once (Some a) (Some r) = sets (own_things plan (key.Route v prefix) a) (own_things plan (key.Route v prefix) r) (own_one a) (own_one r)
 
-  pub bears-once : (old new : Option Row) (used : Owner → Bool) → BearsOnce (name.Route vrf.Default prefix) (changes_of plan (key.Route prefix) old new used)
+  pub bears-once : (old new : Option Row) (used : Owner → Bool) → BearsOnce (name.Route v prefix) (changes_of plan (key.Route v prefix) old new used)
   bears-once old new used = record {
     before = build_all builds [];
-    middle = own_changes plan (key.Route prefix) old new;
+    middle = own_changes plan (key.Route v prefix) old new;
     after = retire_all retires;
-    parts = build_apart builds (own_changes plan (key.Route prefix) old new ++ retire_all retires);
-    first = build_none builds (unshared_in used (uses_of plan (key.Route prefix) old) (uses_of plan (key.Route prefix) new) (route_groups plan prefix new));
+    parts = build_apart builds (own_changes plan (key.Route v prefix) old new ++ retire_all retires);
+    first = build_none builds (unshared_in used (uses_of plan (key.Route v prefix) old) (uses_of plan (key.Route v prefix) new) (route_groups plan v prefix new));
     once = own_once old new;
-    last = retire_none retires (unshared_in used (uses_of plan (key.Route prefix) new) (uses_of plan (key.Route prefix) old) (route_groups plan prefix old));
+    last = retire_none retires (unshared_in used (uses_of plan (key.Route v prefix) new) (uses_of plan (key.Route v prefix) old) (route_groups plan v prefix old));
   }
     where
       builds : List Owner
-      builds = unshared used (uses_of plan (key.Route prefix) old) (uses_of plan (key.Route prefix) new)
+      builds = unshared used (uses_of plan (key.Route v prefix) old) (uses_of plan (key.Route v prefix) new)
 
       retires : List Owner
-      retires = unshared used (uses_of plan (key.Route prefix) new) (uses_of plan (key.Route prefix) old)
+      retires = unshared used (uses_of plan (key.Route v prefix) new) (uses_of plan (key.Route v prefix) old)

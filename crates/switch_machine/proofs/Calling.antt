@@ -91,6 +91,7 @@ none_from (Some x) f y each h = each x h
 pub port_planned : (plan : Ports) (k : Key) (r : Row) (p : PortThing) → Fits plan k r → IsIn (thing.Port p) (own_things plan k r) → IsPlannedPort plan p.lanes
 port_planned plan (key.Port q) (row.Port r) p fit h = (q, fit ∙ ap Some (sym (port_in p (record { lanes = r.lanes; speed = r.speed; mtu = r.mtu; up = r.up }) (from_in (lane_of plan q) _ (thing.Port p) h).2)))
 port_planned plan (key.Vlan v) row.Vlan p fit h = not_this_port p (thing.Vlan v) h (λ e. cc)
+port_planned plan (key.Vrf label) row.Vrf p fit h = not_this_port p (thing.VirtualRouter label) h (λ e. cc)
 port_planned plan (key.Member v q) (row.Member t) p fit h = absurd (none_from (lane_of plan q) (λ lane. thing.VlanMember v lane t ∷ []) (thing.Port p) (λ lane x. not_this_port p (thing.VlanMember v lane t) x (λ e. cc)) h)
 port_planned plan (key.Intf n) row.Intf p fit h = absurd (none_from (base_of plan n) (λ b. thing.Rif b vrf.Default ∷ []) (thing.Port p) (λ b x. not_this_port p (thing.Rif b vrf.Default) x (λ e. cc)) h)
 port_planned plan (key.Neigh n ip) (row.Neigh mac) p fit h = absurd (none_from (base_of plan n) (λ b. thing.Neighbor (record { on = b; ip = ip }) mac ∷ thing.NextHop (record { on = b; ip = ip }) ∷ []) (thing.Port p) (λ b x. neither (record { on = b; ip = ip }) mac x) h)
@@ -98,7 +99,7 @@ port_planned plan (key.Neigh n ip) (row.Neigh mac) p fit h = absurd (none_from (
     neither : (hop : Hop) (mac : Mac) → IsIn (thing.Port p) (thing.Neighbor hop mac ∷ thing.NextHop hop ∷ []) → ⊥
     neither hop mac (inl h) = cc
     neither hop mac (inr h) = not_this_port p (thing.NextHop hop) h (λ e. cc)
-port_planned plan (key.Route prefix) (row.Route r) p fit h = absurd (none_from (goal_of plan r) (λ g. thing.Route vrf.Default prefix g ∷ []) (thing.Port p) (λ g x. not_this_port p (thing.Route vrf.Default prefix g) x (λ e. cc)) h)
+port_planned plan (key.Route v prefix) (row.Route r) p fit h = absurd (none_from (goal_of plan r) (λ g. thing.Route v prefix g ∷ []) (thing.Port p) (λ g x. not_this_port p (thing.Route v prefix g) x (λ e. cc)) h)
 port_planned plan _ _ p fit h = elim h [ ]
 
 pub port_like : (plan : Ports) (k : Key) (r : Row) (t : Thing) (q : PortThing) → Fits plan k r → IsIn t (own_things plan k r) → (thing.Port q ≡ t) ⊎ IsSamePort (thing.Port q) t → IsPlannedPort plan q.lanes

@@ -1,6 +1,5 @@
 -- the values of a row that changes can be set one after the other
 use Rattle.std.proofs.Common.{◌≡◌, ◌⊎◌, ◌∷◌, ◌∙◌, inl, inr, ℕ, Bool, false, List, [], Option, None, Some, option_map, refl, sym, ap, ap₂, subst}
-use Rattle.swss_types.specs.declared.vrf.Vrf.TheVariants as vrf
 use Rattle.table_schema.specs.Plan.{Ports, IsPlan}
 use Rattle.table_schema.specs.declared.key.Key.{Key}
 use Rattle.table_schema.specs.declared.key.Key.TheVariants as key
@@ -116,16 +115,18 @@ changed-runs plan is (key.Member v p) (row.Member a) (row.Member r) leaves (lane
 changed-runs plan is (key.Neigh n ip) (row.Neigh a) (row.Neigh r) leaves (b, base_at) fit V ready =
     set_first plan is (key.Neigh n ip) (row.Neigh a) (row.Neigh r) leaves fit (thing.Neighbor (record { on = b; ip = ip }) a) (thing.Neighbor (record { on = b; ip = ip }) r) (thing.NextHop (record { on = b; ip = ip }) ∷ [])
     (ap (λ o. from o (λ b. thing.Neighbor (record { on = b; ip = ip }) a ∷ thing.NextHop (record { on = b; ip = ip }) ∷ [])) base_at) (ap (λ o. from o (λ b. thing.Neighbor (record { on = b; ip = ip }) r ∷ thing.NextHop (record { on = b; ip = ip }) ∷ [])) base_at) (r, refl) V ready
-changed-runs plan is (key.Route prefix) (row.Route a) (row.Route r) leaves (_, (g, ag)) (proper, (h, ah)) V ready =
-    set_first plan is (key.Route prefix) (row.Route a) (row.Route r) leaves (proper, (h, ah)) (thing.Route vrf.Default prefix g) (thing.Route vrf.Default prefix h) [] (ap (λ o. from o (λ g. thing.Route vrf.Default prefix g ∷ [])) ag) (ap (λ o. from o (λ g. thing.Route vrf.Default prefix g ∷ [])) ah) (h, refl) V ready
+changed-runs plan is (key.Route v prefix) (row.Route a) (row.Route r) leaves (_, (g, ag)) (proper, (h, ah)) V ready =
+    set_first plan is (key.Route v prefix) (row.Route a) (row.Route r) leaves (proper, (h, ah)) (thing.Route v prefix g) (thing.Route v prefix h) [] (ap (λ o. from o (λ g. thing.Route v prefix g ∷ [])) ag) (ap (λ o. from o (λ g. thing.Route v prefix g ∷ [])) ah) (h, refl) V ready
 changed-runs plan is (key.Vlan v) row.Vlan row.Vlan leaves fita fit V ready = none_set plan is (key.Vlan v) row.Vlan leaves fit V ready
+changed-runs plan is (key.Vrf label) row.Vrf row.Vrf leaves fita fit V ready = none_set plan is (key.Vrf label) row.Vrf leaves fit V ready
 changed-runs plan is (key.Intf n) row.Intf row.Intf leaves fita fit V ready = none_set plan is (key.Intf n) row.Intf leaves fit V ready
 changed-runs plan is (key.Addr n ip len) row.Addr row.Addr leaves fita fit V ready = none_set plan is (key.Addr n ip len) row.Addr leaves fit V ready
 changed-runs plan is (key.Port p) (row.Port a) _ leaves fita fit V ready = elim fit [ ]
 changed-runs plan is (key.Vlan v) row.Vlan _ leaves fita fit V ready = elim fit [ ]
+changed-runs plan is (key.Vrf label) row.Vrf _ leaves fita fit V ready = elim fit [ ]
 changed-runs plan is (key.Member v p) (row.Member a) _ leaves fita fit V ready = elim fit [ ]
 changed-runs plan is (key.Intf n) row.Intf _ leaves fita fit V ready = elim fit [ ]
 changed-runs plan is (key.Addr n ip len) row.Addr _ leaves fita fit V ready = elim fit [ ]
 changed-runs plan is (key.Neigh n ip) (row.Neigh a) _ leaves fita fit V ready = elim fit [ ]
-changed-runs plan is (key.Route prefix) (row.Route a) _ leaves fita fit V ready = elim fit [ ]
+changed-runs plan is (key.Route v prefix) (row.Route a) _ leaves fita fit V ready = elim fit [ ]
 changed-runs plan is _ _ _ leaves fita fit V ready = elim fita [ ]

@@ -118,7 +118,7 @@ abbrev half_built : Machine
 half_built = record { board = empty_machine.board; due = λ w. []; reserved = λ w. []; stands = (id_of 0, thing.Route vrf.Default all_routes (goal.Group two_hops)) ∷ (id_of 1, thing.Group two_hops) ∷ (id_of 2, thing.GroupMember two_hops (hop_on 1)) ∷ [] }
 
 last-member_stands : (plan : Ports) → IsConsistent plan half_built → ⊥
-last-member_stands plan x = none (x.steady (key.Route all_routes) (owner.Group two_hops) (thing.Route vrf.Default all_routes (goal.Group two_hops)) (thing.GroupMember two_hops (hop_on 2)) (name.Group two_hops) (id_of 0, inl refl) refl (inl refl) refl tt (inr (inr (inl refl))))
+last-member_stands plan x = none (x.steady (key.Route vrf.Default all_routes) (owner.Group two_hops) (thing.Route vrf.Default all_routes (goal.Group two_hops)) (thing.GroupMember two_hops (hop_on 2)) (name.Group two_hops) (id_of 0, inl refl) refl (inl refl) refl tt (inr (inr (inl refl))))
   where
     none : StandsIn half_built (thing.GroupMember two_hops (hop_on 2)) → ⊥
     none (i, inl e) = let t = ap (λ (z : Rid × Thing). z.1) e in cc

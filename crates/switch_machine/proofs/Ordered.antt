@@ -12,7 +12,7 @@ use Rattle.swss_types.specs.declared.interface.IfName.TheVariants as on
 use Rattle.swss_types.specs.declared.vrf.Vrf.{Vrf}
 use Rattle.swss_types.specs.declared.vrf.Vrf.TheVariants as vrf
 use Rattle.swss_types.proofs.Tied.{tied}
-use Rattle.table_schema.specs.Names.{names_of}
+use Rattle.table_schema.specs.Names.{names_of, names_of_route, router_names}
 use Rattle.table_schema.specs.Plan.{Ports, IsPlan}
 use Rattle.table_schema.specs.declared.key.Key.{Key}
 use Rattle.table_schema.specs.declared.key.Key.TheVariants as key
@@ -29,6 +29,7 @@ use Rattle.sai_types.specs.Hop.{AreRisingHops, by_hop, put_hop}
 use Rattle.switch_model.specs.Things.{base_of, hops_of, lane_of, members_of, whop_of}
 use Rattle.sai_types.specs.Names as name
 use Rattle.sai_types.specs.Names.{ThingName, Refers, name_of}
+use Rattle.sai_types.proofs.Membership.{in-either}
 use Rattle.sai_types.proofs.Things.{both_mapped}
 use Rattle.sai_types.proofs.Rising.{hop_total}
 use Rattle.sai_types.proofs.Weights.{rising-none, rising-put}
@@ -51,23 +52,38 @@ rising_hops plan (x ∷ xs) group e =
 
 -- what uses a group has its hops
 pub group_rising : (plan : Ports) (k : Key) (r : Row) (o : Owner) (hops : List WHop) → IsIn o (uses plan k r) → o ≡ owner.Group hops → AreRisingHops hops
-group_rising plan (key.Route prefix) (row.Route (route.Hops rows)) o hops h e =
+group_rising plan (key.Route v prefix) (row.Route (route.Hops rows)) o hops h e =
     let x = group_use o (hops_of plan rows) h in
     let same : owner.Group x.0 ≡ owner.Group hops = sym x.2 ∙ e in
     let that : x.0 ≡ hops = cc in
     subst AreRisingHops that (rising_hops plan rows x.0 x.1)
-group_rising plan (key.Route prefix) (row.Route route.Drop) o hops h e = elim h [ ]
-group_rising plan (key.Route prefix) (row.Route (route.Direct i)) o hops h e = elim h [ ]
+group_rising plan (key.Route v prefix) (row.Route route.Drop) o hops h e = elim h [ ]
+group_rising plan (key.Route v prefix) (row.Route (route.Direct i)) o hops h e = elim h [ ]
 group_rising plan (key.Member v p) (row.Member t) o hops h e = absurd (only (λ o. o ≡ owner.Group hops → ⊥) o _ (λ z. cc) (from_in (lane_of plan p) (λ lane. owner.Bridge lane ∷ []) o h).2 e)
 group_rising plan (key.Addr i ip len) row.Addr o hops h e = let z = sym (address_use plan i ip o h) ∙ e in absurd cc
 group_rising plan _ _ o hops h e = elim h [ ]
 
 -- ---- a row doesn't name itself
 
-hop_keys : (hops : List (RowHop × ℕ)) (p : Key) (prefix : Prefix) → IsIn p (map (λ (h : RowHop × ℕ). key.Neigh h.0.on h.0.ip) hops) → p ≡ key.Route prefix → ⊥
-hop_keys [] p prefix h e = elim h [ ]
-hop_keys (x ∷ xs) p prefix (inl is) e = let z = sym is ∙ e in cc
-hop_keys (x ∷ xs) p prefix (inr h) e = hop_keys xs p prefix h e
+hop_keys : (hops : List (RowHop × ℕ)) (p : Key) (v : Vrf) (prefix : Prefix) → IsIn p (map (λ (h : RowHop × ℕ). key.Neigh h.0.on h.0.ip) hops) → p ≡ key.Route v prefix → ⊥
+hop_keys [] p v prefix h e = elim h [ ]
+hop_keys (x ∷ xs) p v prefix (inl is) e = let z = sym is ∙ e in cc
+hop_keys (x ∷ xs) p v prefix (inr h) e = hop_keys xs p v prefix h e
+
+router_keys : (v : Vrf) (p : Key) (prefix : Prefix) → IsIn p (router_names v) → p ≡ key.Route v prefix → ⊥
+router_keys vrf.Default p prefix h e = elim h [ ]
+router_keys (vrf.Named label) p prefix (inl is) e = let z = sym is ∙ e in cc
+router_keys (vrf.Named label) p prefix (inr h) e = elim h [ ]
+
+target_keys : (r : Row) (p : Key) (v : Vrf) (prefix : Prefix) → IsIn p (names_of_route r) → p ≡ key.Route v prefix → ⊥
+target_keys (row.Route (route.Direct n)) p v prefix (inl is) e = let z = sym is ∙ e in cc
+target_keys (row.Route (route.Direct n)) p v prefix (inr h) e = elim h [ ]
+target_keys (row.Route (route.Hops hops)) p v prefix h e = hop_keys hops p v prefix h e
+target_keys _ p v prefix h e = elim h [ ]
+
+route_keys : (r : Row) (p : Key) (v : Vrf) (prefix : Prefix) → IsIn p (router_names v) ⊎ IsIn p (names_of_route r) → p ≡ key.Route v prefix → ⊥
+route_keys r p v prefix (inl h) e = router_keys v p prefix h e
+route_keys r p v prefix (inr h) e = target_keys r p v prefix h e
 
 pub no_self_by : (k p : Key) (r : Row) → IsIn p (names_of k r) → p ≡ k → ⊥
 no_self_by (key.Member v q) p r (inl is) e = let z = sym is ∙ e in cc
@@ -77,14 +93,12 @@ no_self_by (key.Intf (on.Vlan v)) p r (inl is) e = let z = sym is ∙ e in cc
 no_self_by (key.Intf (on.Loopback l)) p r h e = elim h [ ]
 no_self_by (key.Addr n ip len) p r (inl is) e = let z = sym is ∙ e in cc
 no_self_by (key.Neigh n ip) p r (inl is) e = let z = sym is ∙ e in cc
-no_self_by (key.Route prefix) p (row.Route (route.Direct n)) (inl is) e = let z = sym is ∙ e in cc
-no_self_by (key.Route prefix) p (row.Route (route.Hops hops)) h e = hop_keys hops p prefix h e
+no_self_by (key.Route v prefix) p r h e = route_keys r p v prefix (in-either p (router_names v) (names_of_route r) h) e
 no_self_by (key.Member v q) p r (inr (inr h)) e = elim h [ ]
 no_self_by (key.Intf (on.Ethernet q)) p r (inr h) e = elim h [ ]
 no_self_by (key.Intf (on.Vlan v)) p r (inr h) e = elim h [ ]
 no_self_by (key.Addr n ip len) p r (inr h) e = elim h [ ]
 no_self_by (key.Neigh n ip) p r (inr h) e = elim h [ ]
-no_self_by (key.Route prefix) p (row.Route (route.Direct n)) (inr h) e = elim h [ ]
 no_self_by _ p _ h e = elim h [ ]
 
 -- ---- a row shares one thing at most
@@ -98,12 +112,12 @@ from_one (Some x) g o p (inl h) (inr k) = elim k [ ]
 one_use_by : (plan : Ports) (k : Key) (r : Row) (o p : Owner) → IsIn o (uses plan k r) → IsIn p (uses plan k r) → o ≡ p
 one_use_by plan (key.Member v q) (row.Member t) o p h g = from_one (lane_of plan q) owner.Bridge o p h g
 one_use_by plan (key.Addr n ip len) row.Addr o p h g = address_use plan n ip o h ∙ sym (address_use plan n ip p g)
-one_use_by plan (key.Route prefix) (row.Route (route.Hops hops)) o p h g =
+one_use_by plan (key.Route v prefix) (row.Route (route.Hops hops)) o p h g =
     let x = group_use o (hops_of plan hops) h in
     let y = group_use p (hops_of plan hops) g in
     x.2 ∙ ap owner.Group (same_Some x.0 y.0 (sym x.1 ∙ y.1)) ∙ sym y.2
-one_use_by plan (key.Route prefix) (row.Route route.Drop) o p h g = elim h [ ]
-one_use_by plan (key.Route prefix) (row.Route (route.Direct n)) o p h g = elim h [ ]
+one_use_by plan (key.Route v prefix) (row.Route route.Drop) o p h g = elim h [ ]
+one_use_by plan (key.Route v prefix) (row.Route (route.Direct n)) o p h g = elim h [ ]
 one_use_by plan _ _ o p h g = elim h [ ]
 
 -- ---- names that are apart
@@ -121,19 +135,21 @@ two_apart t u other = (λ y h e. only (λ y. name_of y ≡ name_of t → ⊥) y 
 own_apart_by : (plan : Ports) (k : Key) (r : Row) → AreNamedApart (own_things plan k r)
 own_apart_by plan (key.Port p) (row.Port r) = things_apart_from (lane_of plan p) _ (λ lane. one_apart (thing.Port (record { lanes = r.lanes; speed = r.speed; mtu = r.mtu; up = r.up })))
 own_apart_by plan (key.Vlan v) row.Vlan = one_apart (thing.Vlan v)
+own_apart_by plan (key.Vrf label) row.Vrf = one_apart (thing.VirtualRouter label)
 own_apart_by plan (key.Member v p) (row.Member t) = things_apart_from (lane_of plan p) _ (λ lane. one_apart (thing.VlanMember v lane t))
 own_apart_by plan (key.Intf n) row.Intf = things_apart_from (base_of plan n) _ (λ b. one_apart (thing.Rif b vrf.Default))
 own_apart_by plan (key.Neigh n ip) (row.Neigh mac) = things_apart_from (base_of plan n) _ (λ b. two_apart (thing.Neighbor (record { on = b; ip = ip }) mac) (thing.NextHop (record { on = b; ip = ip })) (λ e. cc))
-own_apart_by plan (key.Route prefix) (row.Route r) = things_apart_from (goal_of plan r) _ (λ g. one_apart (thing.Route vrf.Default prefix g))
+own_apart_by plan (key.Route v prefix) (row.Route r) = things_apart_from (goal_of plan r) _ (λ g. one_apart (thing.Route v prefix g))
 own_apart_by plan _ _ = tt
 
 going_apart_by : (plan : Ports) (k : Key) (r : Row) → AreNamedApart (going plan k r)
 going_apart_by plan (key.Neigh n ip) (row.Neigh mac) = things_apart_from (base_of plan n) _ (λ b. two_apart (thing.NextHop (record { on = b; ip = ip })) (thing.Neighbor (record { on = b; ip = ip }) mac) (λ e. cc))
 going_apart_by plan (key.Port p) (row.Port r) = own_apart_by plan (key.Port p) (row.Port r)
 going_apart_by plan (key.Vlan v) row.Vlan = one_apart (thing.Vlan v)
+going_apart_by plan (key.Vrf label) row.Vrf = one_apart (thing.VirtualRouter label)
 going_apart_by plan (key.Member v p) (row.Member t) = own_apart_by plan (key.Member v p) (row.Member t)
 going_apart_by plan (key.Intf n) row.Intf = own_apart_by plan (key.Intf n) row.Intf
-going_apart_by plan (key.Route prefix) (row.Route r) = own_apart_by plan (key.Route prefix) (row.Route r)
+going_apart_by plan (key.Route v prefix) (row.Route r) = own_apart_by plan (key.Route v prefix) (row.Route r)
 going_apart_by plan _ _ = tt
 
 all_same : (ts : List Thing) → AreSame ts ts
@@ -180,10 +196,12 @@ going_by : (plan : Ports) (k : Key) (r : Row) (u t : Thing) → IsIn u (own_thin
 going_by plan (key.Port p) (row.Port r) u t h g before = absurd (one_from (lane_of plan p) (λ lane. thing.Port (record { lanes = r.lanes; speed = r.speed; mtu = r.mtu; up = r.up })) (name_of t) u t before)
 going_by plan (key.Vlan v) row.Vlan u t h g (inl x) = elim x.1 [ ]
 going_by plan (key.Vlan v) row.Vlan u t h g (inr x) = elim x [ ]
+going_by plan (key.Vrf label) row.Vrf u t h g (inl x) = elim x.1 [ ]
+going_by plan (key.Vrf label) row.Vrf u t h g (inr x) = elim x [ ]
 going_by plan (key.Member v p) (row.Member x) u t h g before = absurd (one_from (lane_of plan p) (λ lane. thing.VlanMember v lane x) (name_of t) u t before)
 going_by plan (key.Intf n) row.Intf u t h g before = absurd (one_from (base_of plan n) (λ b. thing.Rif b vrf.Default) (name_of t) u t before)
 going_by plan (key.Neigh n ip) (row.Neigh mac) u t h g before = neigh_before (base_of plan n) ip mac u t h g before
-going_by plan (key.Route prefix) (row.Route r) u t h g before = absurd (one_from (goal_of plan r) (thing.Route vrf.Default prefix) (name_of t) u t before)
+going_by plan (key.Route v prefix) (row.Route r) u t h g before = absurd (one_from (goal_of plan r) (thing.Route v prefix) (name_of t) u t before)
 going_by plan _ _ u t h g before = elim h [ ]
 
 -- ---- groups

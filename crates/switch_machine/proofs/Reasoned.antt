@@ -55,14 +55,14 @@ sum_none (suc n) f none =
     omega (arith, rest, last)
 
 -- a route that stands is that of a row of its key, applied or to be applied
-pub row-of_route : (plan : Ports) (m : Machine) → IsConsistent plan m → (v : Vrf) (prefix : Prefix) (g : Goal) → StandsIn m (thing.Route v prefix g) → (r : Row) × IsRow m.board (key.Route prefix) r × IsIn (thing.Route v prefix g) (own_things plan (key.Route prefix) r)
-row-of_route plan m sound v prefix g h = by (sound.like (key.Route prefix) (thing.Route v prefix g) h refl)
+pub row-of_route : (plan : Ports) (m : Machine) → IsConsistent plan m → (v : Vrf) (prefix : Prefix) (g : Goal) → StandsIn m (thing.Route v prefix g) → (r : Row) × IsRow m.board (key.Route v prefix) r × IsIn (thing.Route v prefix g) (own_things plan (key.Route v prefix) r)
+row-of_route plan m sound v prefix g h = by (sound.like (key.Route v prefix) (thing.Route v prefix g) h refl)
   where
-    by : IsLike plan m.board (key.Route prefix) (thing.Route v prefix g) → (r : Row) × IsRow m.board (key.Route prefix) r × IsIn (thing.Route v prefix g) (own_things plan (key.Route prefix) r)
+    by : IsLike plan m.board (key.Route v prefix) (thing.Route v prefix g) → (r : Row) × IsRow m.board (key.Route v prefix) r × IsIn (thing.Route v prefix g) (own_things plan (key.Route v prefix) r)
     by x = (x.row, x.is, in_it x x.resembles.same)
       where
-        in_it : (x : IsLike plan m.board (key.Route prefix) (thing.Route v prefix g)) → (thing.Route v prefix g ≡ x.thing) ⊎ IsSamePort (thing.Route v prefix g) x.thing → IsIn (thing.Route v prefix g) (own_things plan (key.Route prefix) x.row)
-        in_it x (inl same) = subst (λ z. IsIn z (own_things plan (key.Route prefix) x.row)) (sym same) x.of
+        in_it : (x : IsLike plan m.board (key.Route v prefix) (thing.Route v prefix g)) → (thing.Route v prefix g ≡ x.thing) ⊎ IsSamePort (thing.Route v prefix g) x.thing → IsIn (thing.Route v prefix g) (own_things plan (key.Route v prefix) x.row)
+        in_it x (inl same) = subst (λ z. IsIn z (own_things plan (key.Route v prefix) x.row)) (sym same) x.of
         in_it x (inr h) = elim h [ ]
 
 module _ (plan : Ports) (is : IsPlan plan) (workers : ℕ) (capacities : List ℕ) (s : SwitchState) (kept : IsSafe plan workers capacities s) where
@@ -71,10 +71,10 @@ module _ (plan : Ports) (is : IsPlan plan) (workers : ℕ) (capacities : List �
 
   -- the group that a route points at has all its members
   pub route-whole : (v : Vrf) (prefix : Prefix) (hops : List WHop) (hop : WHop) → StandsIn s.machine (thing.Route v prefix (goal.Group hops)) → IsIn hop hops → StandsIn s.machine (thing.GroupMember hops hop)
-  route-whole v prefix hops hop h in_it = kept.sound.steady (key.Route prefix) (owner.Group hops) (thing.Route v prefix (goal.Group hops)) (thing.GroupMember hops hop) (name.Group hops) h refl (group_referred v prefix hops) refl tt (inr (in_members hops hops hop in_it))
+  route-whole v prefix hops hop h in_it = kept.sound.steady (key.Route v prefix) (owner.Group hops) (thing.Route v prefix (goal.Group hops)) (thing.GroupMember hops hop) (name.Group hops) h refl (group_referred v prefix hops) refl tt (inr (in_members hops hops hop in_it))
 
   -- a route that stands is that of its key's applied row, or of the row that an operation brings
-  pub route-row : (v : Vrf) (prefix : Prefix) (g : Goal) → StandsIn s.machine (thing.Route v prefix g) → (r : Row) × IsRow s.machine.board (key.Route prefix) r × IsIn (thing.Route v prefix g) (own_things plan (key.Route prefix) r)
+  pub route-row : (v : Vrf) (prefix : Prefix) (g : Goal) → StandsIn s.machine (thing.Route v prefix g) → (r : Row) × IsRow s.machine.board (key.Route v prefix) r × IsIn (thing.Route v prefix g) (own_things plan (key.Route v prefix) r)
   route-row v prefix g h = row-of_route plan s.machine kept.sound v prefix g h
 
   -- what is due has a call

@@ -74,9 +74,9 @@ row_short plan (key.Member v p) (row.Member t) = from_short (lane_of plan p) own
 row_short plan (key.Addr (on.Ethernet p) ip len) row.Addr = from_short (lane_of plan p) (λ lane. owner.Own vrf.Default ip)
 row_short plan (key.Addr (on.Vlan v) ip len) row.Addr = inr (owner.Own vrf.Default ip, refl)
 row_short plan (key.Addr (on.Loopback n) ip len) row.Addr = inr (owner.Own vrf.Default ip, refl)
-row_short plan (key.Route prefix) (row.Route (route.Hops hops)) = group_short (hops_of plan hops)
-row_short plan (key.Route prefix) (row.Route route.Drop) = inl refl
-row_short plan (key.Route prefix) (row.Route (route.Direct i)) = inl refl
+row_short plan (key.Route v prefix) (row.Route (route.Hops hops)) = group_short (hops_of plan hops)
+row_short plan (key.Route v prefix) (row.Route route.Drop) = inl refl
+row_short plan (key.Route v prefix) (row.Route (route.Direct i)) = inl refl
 row_short plan _ _ = inl refl
 
 pub uses_short : (plan : Ports) (k : Key) (o : Option Row) → IsShort (uses_of plan k o)

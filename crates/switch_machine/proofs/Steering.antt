@@ -8,7 +8,6 @@ use Rattle.swss_types.specs.declared.vrf.Packet.{Packet}
 use Rattle.swss_types.specs.declared.address.Mac.{Mac}
 use Rattle.swss_types.specs.declared.address.Prefix.{Prefix}
 use Rattle.swss_types.specs.declared.vrf.Vrf.{Vrf}
-use Rattle.swss_types.specs.declared.vrf.Vrf.TheVariants as vrf
 use Rattle.swss_types.proofs.Proper.{mapped}
 use Rattle.swss_types.proofs.Routers.{vrf-refl}
 use Rattle.table_schema.specs.Plan.{IsPlan, Ports}
@@ -27,7 +26,7 @@ use Rattle.sai_types.specs.Decided.{AreRoutes}
 use Rattle.sai_types.specs.Forwarding.{Decision, decide, forward, forwarding_of, hop_mac}
 use Rattle.sai_types.specs.Forwarding as decision
 use Rattle.sai_types.specs.Names as name
-use Rattle.sai_types.specs.Names.{ThingName, name_of, thing_router}
+use Rattle.sai_types.specs.Names.{ThingName, name_of}
 use Rattle.sai_types.proofs.Decided.{decide-alike}
 use Rattle.chip_layout.proofs.Answering.{IsFront, front, mac_in}
 use Rattle.row_layout.specs.Operations.{Change, Make, Set, Take, changes_of, uses_of}
@@ -37,7 +36,7 @@ use Rattle.row_layout.proofs.Members.{in_map}
 use Rattle.switch_machine.specs.Bearing.{Bears, BearsOn, NoneBears, SwitchesOnce, standing_things}
 use Rattle.switch_machine.specs.Changes.{after, changed_name}
 use Rattle.switch_machine.specs.Events.{AreAnswers, IsAnswer, IsBegin, IsDueCall, IsQuiet, IsSafe, SwitchState, after_answers, changes_made}
-use Rattle.switch_machine.specs.Flights.{Can, Fits, Goes, HasName, IsFinal, IsOwnedBy, Machine, StandsIn, own_of}
+use Rattle.switch_machine.specs.Flights.{Can, Fits, Goes, IsFinal, IsOwnedBy, Machine, StandsIn}
 use Rattle.switch_machine.specs.Operations.{IsUsedByOthers}
 use Rattle.switch_machine.specs.Steps.{started}
 use Rattle.switch_machine.specs.Tables.{TableLaws}
@@ -47,7 +46,6 @@ use Rattle.switch_machine.proofs.Reasoned.{route-row}
 use Rattle.switch_machine.proofs.Running.{Agree, stays, stood}
 use Rattle.switch_machine.proofs.Sequence.{sequence}
 use Rattle.switch_machine.proofs.Splits.{own_row_in}
-use Rattle.switch_machine.proofs.Standing.{own-default, resembles-default, stands-default}
 use Rattle.switch_machine.proofs.Tabled.{tabled}
 
 -- ---- what a decision rests on
@@ -126,13 +124,13 @@ module _ (plan : Ports) (is : IsPlan plan) (workers : ℕ) (capacities : List �
   abbrev T : TableLaws plan
   T = tabled plan is
 
-  proper_by : (p : Prefix) (r : Row) → Fits plan (key.Route p) r → IsProperPrefix p
-  proper_by p (row.Route r) fit = fit.0
-  proper_by p _ fit = elim fit [ ]
+  proper_by : (v : Vrf) (p : Prefix) (r : Row) → Fits plan (key.Route v p) r → IsProperPrefix p
+  proper_by v p (row.Route r) fit = fit.0
+  proper_by v p _ fit = elim fit [ ]
 
   routes_stand : (s : SwitchState) → IsSafe plan workers capacities s → AreRoutes (standing_things s.machine)
   routes_stand s kept = record {
-    proper = λ v p g h. let x = route-row plan is workers capacities s kept v p g (from_standing s.machine (thing.Route v p g) h) in proper_by p x.0 (kept.sound.board.fit (key.Route p) x.0 x.1);
+    proper = λ v p g h. let x = route-row plan is workers capacities s kept v p g (from_standing s.machine (thing.Route v p g) h) in proper_by v p x.0 (kept.sound.board.fit (key.Route v p) x.0 x.1);
     one = λ v p g h x y. one v p g h (from_standing s.machine (thing.Route v p g) x) (from_standing s.machine (thing.Route v p h) y);
   }
     where
@@ -167,11 +165,11 @@ module _ (plan : Ports) (is : IsPlan plan) (workers : ℕ) (capacities : List �
 
   -- ---- the changes of a route's operation
 
-  bears_route : (prefix : Prefix) (u : Thing) → IsOwnedBy plan (name_of u) (OfRow (key.Route prefix)) → thing_router u ≡ vrf.Default → Bears (name_of u) → name_of u ≡ name.Route vrf.Default prefix
-  bears_route prefix (thing.Route v p g) of default b = cc
-  bears_route prefix (thing.Own v ip) of default b = absurd cc
-  bears_route prefix (thing.Neighbor hop mac) of default b = let m = mapped (λ n. OfRow (key.Neigh n hop.ip)) _ (OfRow (key.Route prefix)) of in let e = m.2 in absurd cc
-  bears_route prefix _ of default b = elim b [ ]
+  bears_route : (v : Vrf) (prefix : Prefix) (n : ThingName) → IsOwnedBy plan n (OfRow (key.Route v prefix)) → Bears n → n ≡ name.Route v prefix
+  bears_route v prefix (name.Route w p) of b = cc
+  bears_route v prefix (name.Own w ip) of b = absurd cc
+  bears_route v prefix (name.Neighbor hop) of b = let m = mapped (λ n. OfRow (key.Neigh n hop.ip)) _ (OfRow (key.Route v prefix)) of in let e = m.2 in absurd cc
+  bears_route v prefix _ of b = elim b [ ]
 
   bears_group : (hops : List WHop) (n : ThingName) → IsOwnedBy plan n (owner.Group hops) → Bears n → ⊥
   bears_group hops (name.Route v p) of b = cc
@@ -179,34 +177,31 @@ module _ (plan : Ports) (is : IsPlan plan) (workers : ℕ) (capacities : List �
   bears_group hops (name.Neighbor hop) of b = let m = mapped (λ n. OfRow (key.Neigh n hop.ip)) _ (owner.Group hops) of in let e = m.2 in cc
   bears_group hops _ of b = elim b [ ]
 
-  route_change : (s : SwitchState) (call : Call Rid) (x : IsDueCall workers call s) (prefix : Prefix) → IsSafe plan workers capacities s → x.flight.key ≡ key.Route prefix → Bears (changed_name x.change) → changed_name x.change ≡ name.Route vrf.Default prefix
-  route_change s call x prefix kept route bears = by x.change (it_can plan is workers capacities s kept call x) bears
+  route_change : (s : SwitchState) (call : Call Rid) (x : IsDueCall workers call s) (v : Vrf) (prefix : Prefix) → IsSafe plan workers capacities s → x.flight.key ≡ key.Route v prefix → Bears (changed_name x.change) → changed_name x.change ≡ name.Route v prefix
+  route_change s call x v prefix kept route bears = by x.change (it_can plan is workers capacities s kept call x) bears
     where
-      of_row : (u : Thing) → IsOwnedBy plan (name_of u) (OfRow x.flight.key) → thing_router u ≡ vrf.Default → Bears (name_of u) → name_of u ≡ name.Route vrf.Default prefix
-      of_row u of default b = bears_route prefix u (of ∙ ap (λ k. Some (OfRow k)) route) default b
+      of_row : (n : ThingName) → IsOwnedBy plan n (OfRow x.flight.key) → Bears n → n ≡ name.Route v prefix
+      of_row n of b = bears_route v prefix n (of ∙ ap (λ k. Some (OfRow k)) route) b
 
-      of_used : (n : ThingName) (o : Owner) (r : Option Row) → IsOwnedBy plan n o → IsIn o (uses_of plan x.flight.key r) → Bears n → n ≡ name.Route vrf.Default prefix
-      of_used n o r of used b = let g = route_groups plan prefix r o (subst (λ k. IsIn o (uses_of plan k r)) route used) in absurd (bears_group g.0 n (of ∙ ap Some g.1) b)
+      of_used : (n : ThingName) (o : Owner) (r : Option Row) → IsOwnedBy plan n o → IsIn o (uses_of plan x.flight.key r) → Bears n → n ≡ name.Route v prefix
+      of_used n o r of used b = let g = route_groups plan v prefix r o (subst (λ k. IsIn o (uses_of plan k r)) route used) in absurd (bears_group g.0 n (of ∙ ap Some g.1) b)
 
-      new_default : (t : Thing) → IsIn t (own_of plan x.flight.key x.flight.new) → thing_router t ≡ vrf.Default
-      new_default t own = let r = own_row_in plan x.flight.key x.flight.new t own in own-default plan x.flight.key r.0 t r.2
-
-      final : (t : Thing) → IsFinal plan x.flight t → Bears (name_of t) → name_of t ≡ name.Route vrf.Default prefix
-      final t (inl own) b = let r = own_row_in plan x.flight.key x.flight.new t own in of_row t (T.own x.flight.key r.0 t (kept.sound.board.fit x.flight.key r.0 (inr (x.worker, x.flight, x.flying, refl, r.1))) r.2) (new_default t own) b
+      final : (t : Thing) → IsFinal plan x.flight t → Bears (name_of t) → name_of t ≡ name.Route v prefix
+      final t (inl own) b = let r = own_row_in plan x.flight.key x.flight.new t own in of_row (name_of t) (T.own x.flight.key r.0 t (kept.sound.board.fit x.flight.key r.0 (inr (x.worker, x.flight, x.flying, refl, r.1))) r.2) b
       final t (inr (o, used, h)) b = of_used (name_of t) o x.flight.new (T.shared o t h) used b
 
-      goes : (n : ThingName) → HasName (StandsIn s.machine) n → Goes plan x.flight n → Bears n → n ≡ name.Route vrf.Default prefix
-      goes n (u, there, same) (inl own) b = sym same ∙ of_row u (subst (λ z. IsOwnedBy plan z (OfRow x.flight.key)) (sym same) own.0) (stands-default plan s.machine kept.sound u there) (subst Bears (sym same) b)
-      goes n there (inr (o, of, retires)) b = let was = kept.sound.board.left x.worker x.flight o x.flying retires in of_used n o (Some was.row) of was.used b
+      goes : (n : ThingName) → Goes plan x.flight n → Bears n → n ≡ name.Route v prefix
+      goes n (inl own) b = of_row n own.0 b
+      goes n (inr (o, of, retires)) b = let was = kept.sound.board.left x.worker x.flight o x.flying retires in of_used n o (Some was.row) of was.used b
 
-      by : (c : Change) → Can plan x.flight (StandsIn s.machine) c → Bears (changed_name c) → changed_name c ≡ name.Route vrf.Default prefix
+      by : (c : Change) → Can plan x.flight (StandsIn s.machine) c → Bears (changed_name c) → changed_name c ≡ name.Route v prefix
       by (Make t) can b = final t can.final b
-      by (Set t) can b = of_row t can.own (resembles-default t can.like can.resembles.same (new_default can.like can.final)) b
-      by (Take n) can b = goes n can.there can.goes b
+      by (Set t) can b = of_row (name_of t) can.own b
+      by (Take n) can b = goes n can.goes b
 
-  -- an address that the prefix doesn't cover goes on as before
-  pub outside : (s t : SwitchState) (call : Call Rid) (x : IsAnswer plan workers call s t) (prefix : Prefix) (a : Packet) → IsSafe plan workers capacities s → x.next.flight.key ≡ key.Route prefix → covers_in vrf.Default prefix a ≡ false → (decide (standing_things t.machine) a ≡ decide (standing_things s.machine) a) × (forward (standing_things t.machine) a ≡ forward (standing_things s.machine) a)
-  outside s t call x prefix a kept route out = step s t call x a kept (λ b. false≢true (sym out ∙ subst (BearsOn a) (route_change s call x.next prefix kept route (bears_on a (changed_name x.next.change) b)) b))
+  -- a packet that the prefix in its router doesn't cover goes on as before
+  pub outside : (s t : SwitchState) (call : Call Rid) (x : IsAnswer plan workers call s t) (v : Vrf) (prefix : Prefix) (a : Packet) → IsSafe plan workers capacities s → x.next.flight.key ≡ key.Route v prefix → covers_in v prefix a ≡ false → (decide (standing_things t.machine) a ≡ decide (standing_things s.machine) a) × (forward (standing_things t.machine) a ≡ forward (standing_things s.machine) a)
+  outside s t call x v prefix a kept route out = step s t call x a kept (λ b. false≢true (sym out ∙ subst (BearsOn a) (route_change s call x.next v prefix kept route (bears_on a (changed_name x.next.change) b)) b))
 
   -- ---- what a run of answers does to a value that only bearing changes move
 
@@ -284,25 +279,25 @@ module _ (plan : Ports) (is : IsPlan plan) (workers : ℕ) (capacities : List �
 
   -- ---- a route's operation that runs alone
 
-  pub route-switches : {X : Type 0} (F : Machine → X) → ((m later : Machine) → m.stands ≡ later.stands → F m ≡ F later) → ((s t : SwitchState) (call : Call Rid) (x : IsAnswer plan workers call s t) → IsSafe plan workers capacities s → (Bears (changed_name x.next.change) → ⊥) → F t.machine ≡ F s.machine) → (s t : SwitchState) (x : IsBegin plan workers capacities s t) (es : List (Call Rid × SwitchState)) (run : AreAnswers plan workers t es) (used : Owner → Bool) (prefix : Prefix) → IsSafe plan workers capacities s → x.flight.key ≡ key.Route prefix → IsQuiet s → IsQuiet (after_answers t es) → IsUsedByOthers plan s.machine.board.applied x.flight.key used → SwitchesOnce (λ n. F (after_answers t (take n es)).machine) (F s.machine) (F (after_answers t es).machine)
-  route-switches F same moves s t x es run used prefix kept route quiet end by =
-      let once = bears-once plan prefix (s.machine.board.applied x.flight.key) x.flight.new used in
+  pub route-switches : {X : Type 0} (F : Machine → X) → ((m later : Machine) → m.stands ≡ later.stands → F m ≡ F later) → ((s t : SwitchState) (call : Call Rid) (x : IsAnswer plan workers call s t) → IsSafe plan workers capacities s → (Bears (changed_name x.next.change) → ⊥) → F t.machine ≡ F s.machine) → (s t : SwitchState) (x : IsBegin plan workers capacities s t) (es : List (Call Rid × SwitchState)) (run : AreAnswers plan workers t es) (used : Owner → Bool) (v : Vrf) (prefix : Prefix) → IsSafe plan workers capacities s → x.flight.key ≡ key.Route v prefix → IsQuiet s → IsQuiet (after_answers t es) → IsUsedByOthers plan s.machine.board.applied x.flight.key used → SwitchesOnce (λ n. F (after_answers t (take n es)).machine) (F s.machine) (F (after_answers t es).machine)
+  route-switches F same moves s t x es run used v prefix kept route quiet end by =
+      let once = bears-once plan v prefix (s.machine.board.applied x.flight.key) x.flight.new used in
       let parts = sequence plan workers capacities s t x es run used quiet end by ∙ ap (λ k. changes_of plan k (s.machine.board.applied x.flight.key) x.flight.new used) route ∙ once.parts in
       let later = switches (λ u. F u.machine) moves t es run (kept-event plan is workers capacities s t None kept (inr (inr (inr x)))) once.before once.middle once.after parts once.first (one once.once) once.last in
       let start = same t.machine s.machine (sym (same_stands plan is workers capacities x.worker (started s.machine x.worker x.flight x.due) t.machine x.follows)) in
       record { moment = later.moment; before = λ n h. later.before n h ∙ start; behind = later.behind }
     where
-      one : {cs : List Change} → (cs ≡ []) ⊎ ((c : Change) × (cs ≡ c ∷ []) × (changed_name c ≡ name.Route vrf.Default prefix)) → (cs ≡ []) ⊎ ((c : Change) × (cs ≡ c ∷ []))
+      one : {cs : List Change} → (cs ≡ []) ⊎ ((c : Change) × (cs ≡ c ∷ []) × (changed_name c ≡ name.Route v prefix)) → (cs ≡ []) ⊎ ((c : Change) × (cs ≡ c ∷ []))
       one (inl e) = inl e
       one (inr (c, e, _)) = inr (c, e)
 
   bears_none : (s t : SwitchState) (call : Call Rid) (x : IsAnswer plan workers call s t) (a : Packet) → IsSafe plan workers capacities s → (Bears (changed_name x.next.change) → ⊥) → (decide (standing_things t.machine) a ≡ decide (standing_things s.machine) a) × (forward (standing_things t.machine) a ≡ forward (standing_things s.machine) a)
   bears_none s t call x a kept none = step s t call x a kept (λ b. none (bears_on a (changed_name x.next.change) b))
 
-  pub decides-once : (s t : SwitchState) (x : IsBegin plan workers capacities s t) (es : List (Call Rid × SwitchState)) (run : AreAnswers plan workers t es) (used : Owner → Bool) (prefix : Prefix) (a : Packet) → IsSafe plan workers capacities s → x.flight.key ≡ key.Route prefix → IsQuiet s → IsQuiet (after_answers t es) → IsUsedByOthers plan s.machine.board.applied x.flight.key used → SwitchesOnce (λ n. decide (standing_things (after_answers t (take n es)).machine) a) (decide (standing_things s.machine) a) (decide (standing_things (after_answers t es).machine) a)
-  decides-once s t x es run used prefix a kept route quiet end by =
-      route-switches (λ m. decide (standing_things m) a) (λ m later e. ap (λ ts. decide (map (λ (y : Rid × Thing). y.1) ts) a) e) (λ s t call x kept none. (bears_none s t call x a kept none).0) s t x es run used prefix kept route quiet end by
+  pub decides-once : (s t : SwitchState) (x : IsBegin plan workers capacities s t) (es : List (Call Rid × SwitchState)) (run : AreAnswers plan workers t es) (used : Owner → Bool) (v : Vrf) (prefix : Prefix) (a : Packet) → IsSafe plan workers capacities s → x.flight.key ≡ key.Route v prefix → IsQuiet s → IsQuiet (after_answers t es) → IsUsedByOthers plan s.machine.board.applied x.flight.key used → SwitchesOnce (λ n. decide (standing_things (after_answers t (take n es)).machine) a) (decide (standing_things s.machine) a) (decide (standing_things (after_answers t es).machine) a)
+  decides-once s t x es run used v prefix a kept route quiet end by =
+      route-switches (λ m. decide (standing_things m) a) (λ m later e. ap (λ ts. decide (map (λ (y : Rid × Thing). y.1) ts) a) e) (λ s t call x kept none. (bears_none s t call x a kept none).0) s t x es run used v prefix kept route quiet end by
 
-  pub forwards-once : (s t : SwitchState) (x : IsBegin plan workers capacities s t) (es : List (Call Rid × SwitchState)) (run : AreAnswers plan workers t es) (used : Owner → Bool) (prefix : Prefix) (a : Packet) → IsSafe plan workers capacities s → x.flight.key ≡ key.Route prefix → IsQuiet s → IsQuiet (after_answers t es) → IsUsedByOthers plan s.machine.board.applied x.flight.key used → SwitchesOnce (λ n. forward (standing_things (after_answers t (take n es)).machine) a) (forward (standing_things s.machine) a) (forward (standing_things (after_answers t es).machine) a)
-  forwards-once s t x es run used prefix a kept route quiet end by =
-      route-switches (λ m. forward (standing_things m) a) (λ m later e. ap (λ ts. forward (map (λ (y : Rid × Thing). y.1) ts) a) e) (λ s t call x kept none. (bears_none s t call x a kept none).1) s t x es run used prefix kept route quiet end by
+  pub forwards-once : (s t : SwitchState) (x : IsBegin plan workers capacities s t) (es : List (Call Rid × SwitchState)) (run : AreAnswers plan workers t es) (used : Owner → Bool) (v : Vrf) (prefix : Prefix) (a : Packet) → IsSafe plan workers capacities s → x.flight.key ≡ key.Route v prefix → IsQuiet s → IsQuiet (after_answers t es) → IsUsedByOthers plan s.machine.board.applied x.flight.key used → SwitchesOnce (λ n. forward (standing_things (after_answers t (take n es)).machine) a) (forward (standing_things s.machine) a) (forward (standing_things (after_answers t es).machine) a)
+  forwards-once s t x es run used v prefix a kept route quiet end by =
+      route-switches (λ m. forward (standing_things m) a) (λ m later e. ap (λ ts. forward (map (λ (y : Rid × Thing). y.1) ts) a) e) (λ s t call x kept none. (bears_none s t call x a kept none).1) s t x es run used v prefix kept route quiet end by

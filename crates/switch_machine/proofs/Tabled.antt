@@ -4,9 +4,10 @@ use Rattle.swss_types.specs.declared.address.Ip.{Ip}
 use Rattle.swss_types.specs.declared.address.Prefix.{Prefix}
 use Rattle.swss_types.specs.declared.interface.IfName.{IfName}
 use Rattle.swss_types.specs.declared.interface.IfName.TheVariants as on
+use Rattle.swss_types.specs.declared.vrf.Vrf.{Vrf}
 use Rattle.swss_types.specs.declared.vrf.Vrf.TheVariants as vrf
 use Rattle.swss_types.proofs.Proper.{mapped}
-use Rattle.table_schema.specs.Names.{names_of}
+use Rattle.table_schema.specs.Names.{names_of, names_of_route, router_names}
 use Rattle.table_schema.specs.Plan.{Ports, IsPlan}
 use Rattle.table_schema.specs.declared.key.Key.{Key}
 use Rattle.table_schema.specs.declared.key.Key.TheVariants as key
@@ -25,13 +26,14 @@ use Rattle.sai_types.specs.declared.thing.Thing.TheVariants as thing
 use Rattle.sai_types.specs.Alike.{IsIn}
 use Rattle.sai_types.specs.Named.{first_lane}
 use Rattle.sai_types.specs.Names as name
-use Rattle.sai_types.specs.Names.{ThingName, Refers, base_name, name_of}
+use Rattle.sai_types.specs.Names.{ThingName, Refers, base_name, goal_names, name_of, with_router}
+use Rattle.sai_types.proofs.Membership.{in-left, in-right}
 use Rattle.switch_model.specs.Things.{base_of, hops_of, lane_of, members_of}
 use Rattle.row_layout.specs.Rows as owner
 use Rattle.row_layout.specs.Rows.{IsPlanned, Owner, from, goal_to, goal_of, own_things}
 use Rattle.row_layout.specs.Shared.{address_uses, group_by, shared_things, uses}
 use Rattle.row_layout.proofs.Members.{from_in, in_map, only, two}
-use Rattle.row_layout.proofs.Naming.{hop_from}
+use Rattle.row_layout.proofs.Naming.{beside_router, hop_from}
 use Rattle.row_layout.proofs.Owners.{interface_by, own, port_by, shared-own}
 use Rattle.switch_machine.specs.Flights.{Fits, IsOwnedBy, IsShared, own_names}
 use Rattle.switch_machine.specs.Tables.{ComesBefore, IsNamed, TableLaws}
@@ -94,6 +96,8 @@ module _ (plan : Ports) (is : IsPlan plan) where
       named (inr h) = elim h [ ]
   names_by (key.Vlan v) row.Vlan n fit (inl e) = (thing.Vlan v, inl refl, sym e)
   names_by (key.Vlan v) row.Vlan n fit (inr h) = elim h [ ]
+  names_by (key.Vrf label) row.Vrf n fit (inl e) = (thing.VirtualRouter label, inl refl, sym e)
+  names_by (key.Vrf label) row.Vrf n fit (inr h) = elim h [ ]
   names_by (key.Intf i) row.Intf n fit h = gives_from (base_of plan i) (λ b. name.Rif b ∷ []) (λ b. thing.Rif b vrf.Default ∷ []) n each h
     where
       each : (b : Base) → IsIn n (name.Rif b ∷ []) → Gives (thing.Rif b vrf.Default ∷ []) n
@@ -104,6 +108,7 @@ module _ (plan : Ports) (is : IsPlan plan) where
       (λ b x. neigh_gives n (thing.Neighbor (record { on = b; ip = ip }) mac) (thing.NextHop (record { on = b; ip = ip })) x) h
   names_by (key.Port p) _ n fit h = elim fit [ ]
   names_by (key.Vlan v) _ n fit h = elim fit [ ]
+  names_by (key.Vrf label) _ n fit h = elim fit [ ]
   names_by (key.Intf i) _ n fit h = elim fit [ ]
   names_by (key.Neigh i ip) _ n fit h = elim fit [ ]
   names_by _ r n fit h = elim h [ ]
@@ -113,6 +118,7 @@ module _ (plan : Ports) (is : IsPlan plan) where
       let m = from_in (lane_of plan p) _ n h in
       only (λ x. IsOwnedBy plan x (owner.OfRow (key.Port p))) n (name.Port m.0) (ap (option_map (λ q. owner.OfRow (key.Port q))) (port_by plan is p m.0 m.1)) m.2
   names_own_by (key.Vlan v) n h = only (λ x. IsOwnedBy plan x (owner.OfRow (key.Vlan v))) n (name.Vlan v) refl h
+  names_own_by (key.Vrf label) n h = only (λ x. IsOwnedBy plan x (owner.OfRow (key.Vrf label))) n (name.VirtualRouter label) refl h
   names_own_by (key.Intf i) n h =
       let m = from_in (base_of plan i) _ n h in
       only (λ x. IsOwnedBy plan x (owner.OfRow (key.Intf i))) n (name.Rif m.0) (ap (option_map (λ q. owner.OfRow (key.Intf q))) (interface_by plan is i m.0 m.1)) m.2
@@ -125,9 +131,9 @@ module _ (plan : Ports) (is : IsPlan plan) where
   pub are_shared_by : (k : Key) (r : Row) (o : Owner) → IsIn o (uses plan k r) → IsShared o
   are_shared_by (key.Member v p) (row.Member t) o h = let m = from_in (lane_of plan p) _ o h in only IsShared o (owner.Bridge m.0) tt m.2
   are_shared_by (key.Addr i ip len) row.Addr o h = subst IsShared (sym (address_use plan i ip o h)) tt
-  are_shared_by (key.Route prefix) (row.Route (route.Hops hops)) o h = let x = group_use o (hops_of plan hops) h in subst IsShared (sym x.2) tt
-  are_shared_by (key.Route prefix) (row.Route route.Drop) o h = elim h [ ]
-  are_shared_by (key.Route prefix) (row.Route (route.Direct i)) o h = elim h [ ]
+  are_shared_by (key.Route v prefix) (row.Route (route.Hops hops)) o h = let x = group_use o (hops_of plan hops) h in subst IsShared (sym x.2) tt
+  are_shared_by (key.Route v prefix) (row.Route route.Drop) o h = elim h [ ]
+  are_shared_by (key.Route v prefix) (row.Route (route.Direct i)) o h = elim h [ ]
   are_shared_by k r o h = elim h [ ]
 
   -- where a reference of a row's things leads
@@ -143,50 +149,65 @@ module _ (plan : Ports) (is : IsPlan plan) where
   rif_named_by : (k : Key) (r : Row) (i : IfName) (b : Base) → base_of plan i ≡ Some b → IsIn (key.Intf i) (names_of k r) → IsNamed plan k r (name.Rif b)
   rif_named_by k r i b at h = record { by = key.Intf i; named = h; own = in_from (base_of plan i) (λ b. name.Rif b ∷ []) b (name.Rif b) at (inl refl) }
 
+  -- a named virtual router is given by its row
+  router_leads : (k : Key) (r : Row) (v : Vrf) → ((p : Key) → IsIn p (router_names v) → IsIn p (names_of k r)) → (n : ThingName) → IsIn n (with_router v []) → IsNamed plan k r n
+  router_leads k r vrf.Default f n h = elim h [ ]
+  router_leads k r (vrf.Named label) f n h = only (IsNamed plan k r) n (name.VirtualRouter label) (record { by = key.Vrf label; named = f (key.Vrf label) (inl refl); own = inl refl }) h
+
   intf_leads : (i : IfName) (r : Row) (b : Base) → base_of plan i ≡ Some b → IsNamed plan (key.Intf i) r (base_name b)
   intf_leads (on.Ethernet p) r b at = let m = mapped base.Port (lane_of plan p) b at in subst (λ z. IsNamed plan (key.Intf (on.Ethernet p)) r (base_name z)) m.2 (port_named_by (key.Intf (on.Ethernet p)) r p m.0 m.1 (inl refl))
   intf_leads (on.Vlan v) r b at = let e : base.Vlan v ≡ b = cc in subst (λ z. IsNamed plan (key.Intf (on.Vlan v)) r (base_name z)) e (record { by = key.Vlan v; named = inl refl; own = inl refl })
   intf_leads (on.Loopback l) r b at = absurd cc
 
   -- a hop of a route is of a neighbour that the route names
-  hop_leads : (prefix : Prefix) (hops : List (RowHop × ℕ)) (group : List WHop) (hop : WHop) → hops_of plan hops ≡ Some group → IsIn hop group → IsNamed plan (key.Route prefix) (row.Route (route.Hops hops)) (name.NextHop hop.hop)
-  hop_leads prefix hops group hop e h =
+  hop_leads : (v : Vrf) (prefix : Prefix) (hops : List (RowHop × ℕ)) (group : List WHop) (hop : WHop) → hops_of plan hops ≡ Some group → IsIn hop group → IsNamed plan (key.Route v prefix) (row.Route (route.Hops hops)) (name.NextHop hop.hop)
+  hop_leads v prefix hops group hop e h =
       let x = hop_from plan hops group hop e h in
       let m = mapped (λ b. record { on = b; ip = x.0.0.ip }) (base_of plan x.0.0.on) hop.hop x.2 in
-      subst (λ z. IsNamed plan (key.Route prefix) (row.Route (route.Hops hops)) (name.NextHop z)) m.2 (record {
+      subst (λ z. IsNamed plan (key.Route v prefix) (row.Route (route.Hops hops)) (name.NextHop z)) m.2 (record {
         by = key.Neigh x.0.0.on x.0.0.ip;
-        named = in_map (λ (h : RowHop × ℕ). key.Neigh h.0.on h.0.ip) x.0 hops x.1;
+        named = in-right _ (router_names v) _ (in_map (λ (h : RowHop × ℕ). key.Neigh h.0.on h.0.ip) x.0 hops x.1);
         own = in_from (base_of plan x.0.0.on) _ m.0 (name.NextHop (record { on = m.0; ip = x.0.0.ip })) m.1 (inr (inl refl));
       })
 
-  abbrev RouteLeads : Prefix → RouteRow → Goal → Type 0
-  RouteLeads prefix r g = LeadAll (key.Route prefix) (row.Route r) (thing.Route vrf.Default prefix g)
+  -- what a goal refers to
+  abbrev RouteLeads : Vrf → Prefix → RouteRow → Goal → Type 0
+  RouteLeads v prefix r g = (n : ThingName) → IsIn n (goal_names g) → Leads (key.Route v prefix) (row.Route r) (thing.Route v prefix g) n
 
-  goal_leads : (prefix : Prefix) (hops : List (RowHop × ℕ)) (o : Option (List WHop)) (g : Goal) → hops_of plan hops ≡ o → goal_to o ≡ Some g → RouteLeads prefix (route.Hops hops) g
-  goal_leads prefix hops None g at e = absurd cc
-  goal_leads prefix hops (Some []) g at e = absurd cc
-  goal_leads prefix hops (Some (hop ∷ [])) g at e =
+  goal_leads : (v : Vrf) (prefix : Prefix) (hops : List (RowHop × ℕ)) (o : Option (List WHop)) (g : Goal) → hops_of plan hops ≡ o → goal_to o ≡ Some g → RouteLeads v prefix (route.Hops hops) g
+  goal_leads v prefix hops None g at e = absurd cc
+  goal_leads v prefix hops (Some []) g at e = absurd cc
+  goal_leads v prefix hops (Some (hop ∷ [])) g at e =
       let is : goal.Via hop.hop ≡ g = cc in
-      subst (RouteLeads prefix (route.Hops hops)) is
-      (λ n h. only (Leads (key.Route prefix) (row.Route (route.Hops hops)) (thing.Route vrf.Default prefix (goal.Via hop.hop))) n (name.NextHop hop.hop) (inl (hop_leads prefix hops (hop ∷ []) hop at (inl refl))) h)
-  goal_leads prefix hops (Some (hop ∷ next ∷ more)) g at e =
+      subst (RouteLeads v prefix (route.Hops hops)) is
+      (λ n h. only (Leads (key.Route v prefix) (row.Route (route.Hops hops)) (thing.Route v prefix (goal.Via hop.hop))) n (name.NextHop hop.hop) (inl (hop_leads v prefix hops (hop ∷ []) hop at (inl refl))) h)
+  goal_leads v prefix hops (Some (hop ∷ next ∷ more)) g at e =
       let all = hop ∷ next ∷ more in
       let is : goal.Group all ≡ g = cc in
       let used : IsIn (owner.Group all) (group_by (hops_of plan hops)) = subst (λ z. IsIn (owner.Group all) (group_by z)) (sym at) (inl refl) in
-      subst (RouteLeads prefix (route.Hops hops)) is
-      (λ n h. only (Leads (key.Route prefix) (row.Route (route.Hops hops)) (thing.Route vrf.Default prefix (goal.Group all))) n (name.Group all) (inr (inr (owner.Group all, refl, used, (thing.Group all, inl refl, refl)))) h)
+      subst (RouteLeads v prefix (route.Hops hops)) is
+      (λ n h. only (Leads (key.Route v prefix) (row.Route (route.Hops hops)) (thing.Route v prefix (goal.Group all))) n (name.Group all) (inr (inr (owner.Group all, refl, used, (thing.Group all, inl refl, refl)))) h)
 
-  route_leads : (prefix : Prefix) (r : RouteRow) (g : Goal) → goal_of plan r ≡ Some g → RouteLeads prefix r g
-  route_leads prefix route.Drop g at = let e : goal.Drop ≡ g = cc in subst (RouteLeads prefix route.Drop) e (λ n h. elim h [ ])
-  route_leads prefix (route.Direct i) g at =
+  route_leads : (v : Vrf) (prefix : Prefix) (r : RouteRow) (g : Goal) → goal_of plan r ≡ Some g → RouteLeads v prefix r g
+  route_leads v prefix route.Drop g at = let e : goal.Drop ≡ g = cc in subst (RouteLeads v prefix route.Drop) e (λ n h. elim h [ ])
+  route_leads v prefix (route.Direct i) g at =
       let m = mapped goal.Direct (base_of plan i) g at in
-      subst (RouteLeads prefix (route.Direct i)) m.2
-      (λ n h. only (Leads (key.Route prefix) (row.Route (route.Direct i)) (thing.Route vrf.Default prefix (goal.Direct m.0))) n (name.Rif m.0) (inl (rif_named_by (key.Route prefix) (row.Route (route.Direct i)) i m.0 m.1 (inl refl))) h)
-  route_leads prefix (route.Hops hops) g at = goal_leads prefix hops (hops_of plan hops) g refl at
+      subst (RouteLeads v prefix (route.Direct i)) m.2
+      (λ n h. only (Leads (key.Route v prefix) (row.Route (route.Direct i)) (thing.Route v prefix (goal.Direct m.0))) n (name.Rif m.0) (inl (rif_named_by (key.Route v prefix) (row.Route (route.Direct i)) i m.0 m.1 (in-right _ (router_names v) _ (inl refl)))) h)
+  route_leads v prefix (route.Hops hops) g at = goal_leads v prefix hops (hops_of plan hops) g refl at
+
+  -- and a route's thing, its virtual router beside that
+  route_thing_leads : (v : Vrf) (prefix : Prefix) (r : RouteRow) (g : Goal) → goal_of plan r ≡ Some g → LeadAll (key.Route v prefix) (row.Route r) (thing.Route v prefix g)
+  route_thing_leads v prefix r g at n e = by (beside_router v (goal_names g) n e)
+    where
+      by : IsIn n (with_router v []) ⊎ IsIn n (goal_names g) → Leads (key.Route v prefix) (row.Route r) (thing.Route v prefix g) n
+      by (inl h) = inl (router_leads (key.Route v prefix) (row.Route r) v (λ p i. in-left p (router_names v) (names_of_route (row.Route r)) i) n h)
+      by (inr h) = route_leads v prefix r g at n h
 
   pub own_refers_by : (k : Key) (r : Row) (t : Thing) → Fits plan k r → IsIn t (own_things plan k r) → LeadAll k r t
   own_refers_by (key.Port p) (row.Port r) t fit h = only (LeadAll (key.Port p) (row.Port r)) t _ (λ n e. elim e [ ]) (from_in (lane_of plan p) _ t h).2
   own_refers_by (key.Vlan v) row.Vlan t fit h = only (LeadAll (key.Vlan v) row.Vlan) t (thing.Vlan v) (λ n e. elim e [ ]) h
+  own_refers_by (key.Vrf label) row.Vrf t fit h = only (LeadAll (key.Vrf label) row.Vrf) t (thing.VirtualRouter label) (λ n e. elim e [ ]) h
   own_refers_by (key.Member v p) (row.Member tagging) t fit h = let m = from_in (lane_of plan p) _ t h in only (LeadAll (key.Member v p) (row.Member tagging)) t (thing.VlanMember v m.0 tagging) (leads m.0 m.1) m.2
     where
       leads : (lane : ℕ) → lane_of plan p ≡ Some lane → LeadAll (key.Member v p) (row.Member tagging) (thing.VlanMember v lane tagging)
@@ -213,7 +234,7 @@ module _ (plan : Ports) (is : IsPlan plan) where
             names_own_by (key.Neigh i ip) (name.Neighbor (record { on = b; ip = ip })) (in_from (base_of plan i) _ b (name.Neighbor (record { on = b; ip = ip })) at (inl refl)),
             subst (λ o. ComesBefore (name.Neighbor (record { on = b; ip = ip })) (thing.NextHop (record { on = b; ip = ip })) (from o (λ b. thing.Neighbor (record { on = b; ip = ip }) mac ∷ thing.NextHop (record { on = b; ip = ip }) ∷ []))) (sym at) (inl (refl, inl refl)),
           ))) e
-  own_refers_by (key.Route prefix) (row.Route r) t fit h = let m = from_in (goal_of plan r) _ t h in only (LeadAll (key.Route prefix) (row.Route r)) t (thing.Route vrf.Default prefix m.0) (route_leads prefix r m.0 m.1) m.2
+  own_refers_by (key.Route v prefix) (row.Route r) t fit h = let m = from_in (goal_of plan r) _ t h in only (LeadAll (key.Route v prefix) (row.Route r)) t (thing.Route v prefix m.0) (route_thing_leads v prefix r m.0 m.1) m.2
   own_refers_by k r t fit h = elim h [ ]
 
   -- and of what a row shares
@@ -234,20 +255,20 @@ module _ (plan : Ports) (is : IsPlan plan) where
       let same = address_use plan i ip o h in
       subst (λ o. SharedLeadAll (key.Addr i ip len) row.Addr o u) (sym same)
       (only (SharedLeadAll (key.Addr i ip len) row.Addr (owner.Own vrf.Default ip)) u (thing.Own vrf.Default ip) (λ n e. elim e [ ]) (subst (λ o. IsIn u (shared_things o)) same in_it))
-  shared_refers_by (key.Route prefix) (row.Route (route.Hops hops)) o u fit h in_it =
+  shared_refers_by (key.Route v prefix) (row.Route (route.Hops hops)) o u fit h in_it =
       let x = group_use o (hops_of plan hops) h in
-      subst (λ o. SharedLeadAll (key.Route prefix) (row.Route (route.Hops hops)) o u) (sym x.2) (group x.0 x.1 (subst (λ o. IsIn u (shared_things o)) x.2 in_it))
+      subst (λ o. SharedLeadAll (key.Route v prefix) (row.Route (route.Hops hops)) o u) (sym x.2) (group x.0 x.1 (subst (λ o. IsIn u (shared_things o)) x.2 in_it))
     where
-      member : (all : List WHop) (hop : WHop) → hops_of plan hops ≡ Some all → IsIn hop all → SharedLeadAll (key.Route prefix) (row.Route (route.Hops hops)) (owner.Group all) (thing.GroupMember all hop)
+      member : (all : List WHop) (hop : WHop) → hops_of plan hops ≡ Some all → IsIn hop all → SharedLeadAll (key.Route v prefix) (row.Route (route.Hops hops)) (owner.Group all) (thing.GroupMember all hop)
       member all hop at i n e =
-          two (SharedLeads (key.Route prefix) (row.Route (route.Hops hops)) (owner.Group all) (thing.GroupMember all hop)) n (name.Group all) (name.NextHop hop.hop)
-          (inr (refl, inl (refl, in_members all all hop i))) (inl (hop_leads prefix hops all hop at i)) e
+          two (SharedLeads (key.Route v prefix) (row.Route (route.Hops hops)) (owner.Group all) (thing.GroupMember all hop)) n (name.Group all) (name.NextHop hop.hop)
+          (inr (refl, inl (refl, in_members all all hop i))) (inl (hop_leads v prefix hops all hop at i)) e
 
-      group : (all : List WHop) → hops_of plan hops ≡ Some all → IsIn u (shared_things (owner.Group all)) → SharedLeadAll (key.Route prefix) (row.Route (route.Hops hops)) (owner.Group all) u
-      group all at (inl e) = subst (SharedLeadAll (key.Route prefix) (row.Route (route.Hops hops)) (owner.Group all)) (sym e) (λ n x. elim x [ ])
-      group all at (inr y) = let m = member_of all all u y in subst (SharedLeadAll (key.Route prefix) (row.Route (route.Hops hops)) (owner.Group all)) (sym m.2) (member all m.0 at m.1)
-  shared_refers_by (key.Route prefix) (row.Route route.Drop) o u fit h in_it = elim h [ ]
-  shared_refers_by (key.Route prefix) (row.Route (route.Direct i)) o u fit h in_it = elim h [ ]
+      group : (all : List WHop) → hops_of plan hops ≡ Some all → IsIn u (shared_things (owner.Group all)) → SharedLeadAll (key.Route v prefix) (row.Route (route.Hops hops)) (owner.Group all) u
+      group all at (inl e) = subst (SharedLeadAll (key.Route v prefix) (row.Route (route.Hops hops)) (owner.Group all)) (sym e) (λ n x. elim x [ ])
+      group all at (inr y) = let m = member_of all all u y in subst (SharedLeadAll (key.Route v prefix) (row.Route (route.Hops hops)) (owner.Group all)) (sym m.2) (member all m.0 at m.1)
+  shared_refers_by (key.Route v prefix) (row.Route route.Drop) o u fit h in_it = elim h [ ]
+  shared_refers_by (key.Route v prefix) (row.Route (route.Direct i)) o u fit h in_it = elim h [ ]
   shared_refers_by k r o u fit h in_it = elim h [ ]
 
   pub tabled : TableLaws plan

@@ -65,6 +65,7 @@ own_of plan k (Some r) = own_things plan k r
 abbrev pub own_names : Ports → Key → List ThingName
 own_names plan (key.Port port) = from (lane_of plan port) (λ lane. name.Port lane ∷ [])
 own_names plan (key.Vlan vlan) = name.Vlan vlan ∷ []
+own_names plan (key.Vrf label) = name.VirtualRouter label ∷ []
 own_names plan (key.Intf n) = from (base_of plan n) (λ b. name.Rif b ∷ [])
 own_names plan (key.Neigh n ip) = from (base_of plan n) (λ b. name.Neighbor (record { on = b; ip = ip }) ∷ name.NextHop (record { on = b; ip = ip }) ∷ [])
 own_names plan _ = []
@@ -73,11 +74,12 @@ own_names plan _ = []
 abbrev pub Fits : Ports → Key → Row → Type 0
 Fits plan (key.Port port) (row.Port r) = lanes_in_plan plan port ≡ Some r.lanes
 Fits plan (key.Vlan vlan) row.Vlan = Unit {0}
+Fits plan (key.Vrf label) row.Vrf = Unit {0}
 Fits plan (key.Member vlan port) (row.Member tagging) = (lane : ℕ) × (lane_of plan port ≡ Some lane)
 Fits plan (key.Intf n) row.Intf = Unit {0}
 Fits plan (key.Addr n ip len) row.Addr = Unit {0}
 Fits plan (key.Neigh n ip) (row.Neigh mac) = (b : Base) × (base_of plan n ≡ Some b)
-Fits plan (key.Route prefix) (row.Route r) = IsProperPrefix prefix × ((g : Goal) × (goal_of plan r ≡ Some g))
+Fits plan (key.Route v prefix) (row.Route r) = IsProperPrefix prefix × ((g : Goal) × (goal_of plan r ≡ Some g))
 Fits plan _ _ = ⊥
 
 abbrev pub IsShared : Owner → Type 0

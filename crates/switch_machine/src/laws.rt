@@ -2,7 +2,6 @@
 ghost use Rattle.std.specs.Prelude.{◌≡◌, ◌⊎◌, ℕ, ◌+◌, Bool, false, take, ◌<◌, List, ◌∷◌, Option, Some, None};
 ghost use Rattle.swss_types.specs.Vrf.{covers_in};
 ghost use Rattle.swss_types.specs.declared.vrf.Vrf.{Vrf};
-ghost use Rattle.swss_types.specs.declared.vrf.Vrf.TheVariants as vrf;
 ghost use Rattle.swss_types.specs.declared.vrf.Packet.{Packet};
 ghost use Rattle.swss_types.specs.declared.address.Prefix.{Prefix};
 ghost use Rattle.table_schema.specs.Plan.{Ports, IsPlan};
@@ -67,11 +66,11 @@ pub fn rest_is_alike()
     ensures closed { (plan : Ports) (workers : ℕ) (capacities : List ℕ) (s : SwitchState) → IsPlan plan → IsSafe plan workers capacities s → IsClosed s.machine.board.applied }
 {}
 
-/// A route that stands is that of a row of its prefix, applied or to be applied, which was its good row after some number of
-/// the writes taken; and the group that it points at has a member for each of its hops.
+/// A route that stands is that of a row of its virtual router and prefix, applied or to be applied, which was its good row after
+/// some number of the writes taken; and the group that it points at has a member for each of its hops.
 pub fn routes_are_whole()
-    ensures rows { (plan : Ports) (workers : ℕ) (capacities : List ℕ) (s : SwitchState) (v : Vrf) (prefix : Prefix) (g : Goal) → IsPlan plan → IsSafe plan workers capacities s → StandsIn s.machine (thing.Route v prefix g) → (r : Row) × IsRow s.machine.board (key.Route prefix) r × IsIn (thing.Route v prefix g) (own_things plan (key.Route prefix) r) }
-    ensures written { (plan : Ports) (workers : ℕ) (capacities : List ℕ) (s : SwitchState) (v : Vrf) (prefix : Prefix) (g : Goal) → IsPlan plan → IsSafe plan workers capacities s → StandsIn s.machine (thing.Route v prefix g) → (r : Row) × IsGoodOnce plan s.written.taken (key.Route prefix) r × IsIn (thing.Route v prefix g) (own_things plan (key.Route prefix) r) }
+    ensures rows { (plan : Ports) (workers : ℕ) (capacities : List ℕ) (s : SwitchState) (v : Vrf) (prefix : Prefix) (g : Goal) → IsPlan plan → IsSafe plan workers capacities s → StandsIn s.machine (thing.Route v prefix g) → (r : Row) × IsRow s.machine.board (key.Route v prefix) r × IsIn (thing.Route v prefix g) (own_things plan (key.Route v prefix) r) }
+    ensures written { (plan : Ports) (workers : ℕ) (capacities : List ℕ) (s : SwitchState) (v : Vrf) (prefix : Prefix) (g : Goal) → IsPlan plan → IsSafe plan workers capacities s → StandsIn s.machine (thing.Route v prefix g) → (r : Row) × IsGoodOnce plan s.written.taken (key.Route v prefix) r × IsIn (thing.Route v prefix g) (own_things plan (key.Route v prefix) r) }
     ensures members { (plan : Ports) (workers : ℕ) (capacities : List ℕ) (s : SwitchState) (v : Vrf) (prefix : Prefix) (hops : List WHop) (hop : WHop) → IsPlan plan → IsSafe plan workers capacities s → StandsIn s.machine (thing.Route v prefix (goal.Group hops)) → IsIn hop hops → StandsIn s.machine (thing.GroupMember hops hop) }
 {}
 
@@ -101,17 +100,18 @@ pub fn reasons_hinder()
 {}
 
 /// Of the changes of a route's operation one at most is about a route, an own address or a neighbour, and it is about the
-/// route of the key: no other decides where packets go.
+/// route of the key, in its virtual router: no other decides where packets go.
 pub fn route_changes_once()
-    ensures { (plan : Ports) (prefix : Prefix) (old new : Option Row) (used : Owner → Bool) → BearsOnce (name.Route vrf.Default prefix) (changes_of plan (key.Route prefix) old new used) }
+    ensures { (plan : Ports) (v : Vrf) (prefix : Prefix) (old new : Option Row) (used : Owner → Bool) → BearsOnce (name.Route v prefix) (changes_of plan (key.Route v prefix) old new used) }
 {}
 
-/// While the operation of a route runs, beside whatever others, each of its calls leaves where the packets of an address go
-/// that its prefix doesn't cover. Where it runs alone, where the packets of any address go changes at most once.
+/// While the operation of a route runs, beside whatever others, each of its calls leaves where packets go that are in another
+/// virtual router, or that its prefix doesn't cover. Where it runs alone, where the packets of any router and address go changes
+/// at most once.
 pub fn routes_are_steady()
-    ensures outside { (plan : Ports) (workers : ℕ) (capacities : List ℕ) (s t : SwitchState) (call : Call Rid) (x : IsAnswer plan workers call s t) (prefix : Prefix) (a : Packet) → IsPlan plan → IsSafe plan workers capacities s → x.next.flight.key ≡ key.Route prefix → covers_in vrf.Default prefix a ≡ false → (decide (standing_things t.machine) a ≡ decide (standing_things s.machine) a) × (forward (standing_things t.machine) a ≡ forward (standing_things s.machine) a) }
-    ensures decided { (plan : Ports) (workers : ℕ) (capacities : List ℕ) (s t : SwitchState) (x : IsBegin plan workers capacities s t) (es : List (Call Rid × SwitchState)) (run : AreAnswers plan workers t es) (used : Owner → Bool) (prefix : Prefix) (a : Packet) → IsPlan plan → IsSafe plan workers capacities s → x.flight.key ≡ key.Route prefix → IsQuiet s → IsQuiet (after_answers t es) → IsUsedByOthers plan s.machine.board.applied x.flight.key used → SwitchesOnce (λ n. decide (standing_things (after_answers t (take n es)).machine) a) (decide (standing_things s.machine) a) (decide (standing_things (after_answers t es).machine) a) }
-    ensures forwarded { (plan : Ports) (workers : ℕ) (capacities : List ℕ) (s t : SwitchState) (x : IsBegin plan workers capacities s t) (es : List (Call Rid × SwitchState)) (run : AreAnswers plan workers t es) (used : Owner → Bool) (prefix : Prefix) (a : Packet) → IsPlan plan → IsSafe plan workers capacities s → x.flight.key ≡ key.Route prefix → IsQuiet s → IsQuiet (after_answers t es) → IsUsedByOthers plan s.machine.board.applied x.flight.key used → SwitchesOnce (λ n. forward (standing_things (after_answers t (take n es)).machine) a) (forward (standing_things s.machine) a) (forward (standing_things (after_answers t es).machine) a) }
+    ensures outside { (plan : Ports) (workers : ℕ) (capacities : List ℕ) (s t : SwitchState) (call : Call Rid) (x : IsAnswer plan workers call s t) (v : Vrf) (prefix : Prefix) (a : Packet) → IsPlan plan → IsSafe plan workers capacities s → x.next.flight.key ≡ key.Route v prefix → covers_in v prefix a ≡ false → (decide (standing_things t.machine) a ≡ decide (standing_things s.machine) a) × (forward (standing_things t.machine) a ≡ forward (standing_things s.machine) a) }
+    ensures decided { (plan : Ports) (workers : ℕ) (capacities : List ℕ) (s t : SwitchState) (x : IsBegin plan workers capacities s t) (es : List (Call Rid × SwitchState)) (run : AreAnswers plan workers t es) (used : Owner → Bool) (v : Vrf) (prefix : Prefix) (a : Packet) → IsPlan plan → IsSafe plan workers capacities s → x.flight.key ≡ key.Route v prefix → IsQuiet s → IsQuiet (after_answers t es) → IsUsedByOthers plan s.machine.board.applied x.flight.key used → SwitchesOnce (λ n. decide (standing_things (after_answers t (take n es)).machine) a) (decide (standing_things s.machine) a) (decide (standing_things (after_answers t es).machine) a) }
+    ensures forwarded { (plan : Ports) (workers : ℕ) (capacities : List ℕ) (s t : SwitchState) (x : IsBegin plan workers capacities s t) (es : List (Call Rid × SwitchState)) (run : AreAnswers plan workers t es) (used : Owner → Bool) (v : Vrf) (prefix : Prefix) (a : Packet) → IsPlan plan → IsSafe plan workers capacities s → x.flight.key ≡ key.Route v prefix → IsQuiet s → IsQuiet (after_answers t es) → IsUsedByOthers plan s.machine.board.applied x.flight.key used → SwitchesOnce (λ n. forward (standing_things (after_answers t (take n es)).machine) a) (forward (standing_things s.machine) a) (forward (standing_things (after_answers t es).machine) a) }
 {}
 
 /// What an event adds to the log takes these places: a write that is taken one, a call with its effect and the mark of its failure

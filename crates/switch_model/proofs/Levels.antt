@@ -26,7 +26,8 @@ level_not_below_zero q = omega arith
 pub first_lower : (k q : Key) → key_cmp k q ≡ Less → level_of k ≤ level_of q
 first_lower (key.Port port) q h = level_not_below_zero q
 first_lower (key.Vlan vlan) q h = level_not_below_zero q
-first_lower k (key.Route x) h = let l = low k in omega (arith, l)
+first_lower (key.Vrf n) q h = level_not_below_zero q
+first_lower k (key.Route v x) h = let l = low k in omega (arith, l)
 first_lower k (key.Other x) h = let l = low k in omega (arith, l)
 first_lower (key.Member vlan port) (key.Member x y) h = omega arith
 first_lower (key.Member vlan port) (key.Intf x) h = omega arith

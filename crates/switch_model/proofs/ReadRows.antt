@@ -71,6 +71,9 @@ port_read plan port r (fields, h) =
 pub vlan_read : (plan : Ports) (vlan : ℕ) (r : Row) → IsRead plan (key.Vlan vlan) r → r ≡ row.Vlan
 vlan_read plan vlan r (fields, h) = cc
 
+pub vrf_read : (plan : Ports) (n : _) (r : Row) → IsRead plan (key.Vrf n) r → r ≡ row.Vrf
+vrf_read plan n r (fields, h) = cc
+
 pub in_router-is : (o : Option (List ℕ)) (r : Row) → in_router o ≡ Ok r → r ≡ row.Intf
 in_router-is None r h = cc
 in_router-is (Some []) r h = cc

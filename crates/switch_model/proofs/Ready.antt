@@ -1,11 +1,13 @@
 -- ready rows, level by level
-use Rattle.std.proofs.Common.{◌≡◌, ℕ, zero, suc, ◌<◌, ◌≤◌, true, ◌&&◌, if◌then◌else◌, List, [], ◌∷◌, map, Option, None, Some, refl, ap, ◌∙◌, subst, arith}
+use Rattle.std.proofs.Common.{◌≡◌, ℕ, zero, suc, ◌<◌, ◌≤◌, true, ◌&&◌, if◌then◌else◌, List, [], ◌∷◌, ◌++◌, map, Option, None, Some, refl, ap, ◌∙◌, subst, arith}
 use Rattle.std.proofs.lemmas.Bool.{and_from, and_parts}
 use Rattle.std.specs.Option.{is_some}
 use Rattle.std.proofs.lemmas.Option.{cond_some}
 use Rattle.swss_types.specs.declared.interface.IfName.{IfName}
 use Rattle.swss_types.specs.declared.interface.IfName.TheVariants as name
-use Rattle.table_schema.specs.Names.{names_of, base_names, route_names, names_of_route}
+use Rattle.swss_types.specs.declared.vrf.Vrf.{Vrf}
+use Rattle.swss_types.specs.declared.vrf.Vrf.TheVariants as vrf
+use Rattle.table_schema.specs.Names.{names_of, base_names, route_names, names_of_route, router_names}
 use Rattle.table_schema.specs.declared.key.Key.{Key}
 use Rattle.table_schema.specs.declared.key.Key.TheVariants as key
 use Rattle.table_schema.specs.declared.row.Row.{Row}
@@ -68,6 +70,14 @@ bases_below (name.Ethernet port) = (omega arith, tt)
 bases_below (name.Vlan vlan) = (omega arith, tt)
 bases_below (name.Loopback number) = tt
 
+below_both : (n : ℕ) (ks qs : List Key) → AreBelow n ks → AreBelow n qs → AreBelow n (ks ++ qs)
+below_both n [] qs h g = g
+below_both n (k ∷ ks) qs h g = (h.0, below_both n ks qs h.1 g)
+
+routers_below : (v : Vrf) → AreBelow 3 (router_names v)
+routers_below vrf.Default = tt
+routers_below (vrf.Named n) = (omega arith, tt)
+
 hops_below : (hops : List (RowHop × ℕ)) → AreBelow 3 (map (λ h. key.Neigh h.0.on h.0.ip) hops)
 hops_below [] = tt
 hops_below (h ∷ hs) = (omega arith, hops_below hs)
@@ -80,6 +90,7 @@ targets_below (route.Hops hops) = hops_below hops
 routes_below : (r : Row) → AreBelow 3 (names_of_route r)
 routes_below (row.Port r) = tt
 routes_below row.Vlan = tt
+routes_below row.Vrf = tt
 routes_below (row.Member tagging) = tt
 routes_below row.Intf = tt
 routes_below row.Addr = tt
@@ -90,11 +101,12 @@ routes_below (row.Route target) = targets_below target
 pub names_below : (k : Key) (r : Row) → AreBelow (level_of k) (names_of k r)
 names_below (key.Port port) r = tt
 names_below (key.Vlan vlan) r = tt
+names_below (key.Vrf n) r = tt
 names_below (key.Member vlan port) r = (omega arith, (omega arith, tt))
 names_below (key.Intf on) r = bases_below on
 names_below (key.Addr on ip len) r = (omega arith, tt)
 names_below (key.Neigh on ip) r = (omega arith, tt)
-names_below (key.Route prefix) r = routes_below r
+names_below (key.Route v prefix) r = below_both 3 (router_names v) (names_of_route r) (routers_below v) (routes_below r)
 names_below (key.Other text) r = tt
 
 have_rows-same : (f g : TypedRows) (n m : ℕ) → n ≤ m → ((k : Key) → level_of k < m → f k ≡ g k) → (keys : List Key) → AreBelow n keys → have_rows g keys ≡ true → have_rows f keys ≡ true
@@ -114,11 +126,12 @@ ready_below-closed (suc n) rows closed k low = where_named_stays (ready_below n 
 pub low : (k : Key) → level_of k < 4
 low (key.Port port) = omega arith
 low (key.Vlan vlan) = omega arith
+low (key.Vrf n) = omega arith
 low (key.Member vlan port) = omega arith
 low (key.Intf on) = omega arith
 low (key.Addr on ip len) = omega arith
 low (key.Neigh on ip) = omega arith
-low (key.Route prefix) = omega arith
+low (key.Route v prefix) = omega arith
 low (key.Other text) = omega arith
 
 -- closed rows are all ready

@@ -1,6 +1,6 @@
 -- whatever a thing of closed rows that read refers to is a thing of them
-use Rattle.std.proofs.Common.{◌≡◌, inl, inr, ℕ, true, List, [], ◌∷◌, map, Option, None, Some, refl, sym, ap, ◌∙◌, subst}
-use Rattle.std.proofs.lemmas.Bool.{and_parts}
+use Rattle.std.proofs.Common.{◌≡◌, inl, inr, ℕ, true, List, [], ◌∷◌, ◌++◌, map, Option, None, Some, refl, sym, ap, ◌∙◌, subst}
+use Rattle.std.proofs.lemmas.Bool.{and_from, and_parts}
 use Rattle.std.specs.Option.{is_some}
 use Rattle.std.specs.Prelude.{option_map}
 use Rattle.swss_types.specs.declared.address.Ip.{Ip}
@@ -9,9 +9,11 @@ use Rattle.swss_types.specs.declared.address.Prefix.{Prefix}
 use Rattle.swss_types.specs.declared.interface.IfName.{IfName}
 use Rattle.swss_types.specs.declared.interface.IfName.TheVariants as name
 use Rattle.swss_types.specs.declared.tagging.Tagging.{Tagging}
+use Rattle.swss_types.specs.declared.vrf.Vrf.{Vrf}
 use Rattle.swss_types.specs.declared.vrf.Vrf.TheVariants as vrf
+use Rattle.swss_types.specs.declared.vrf.VrfName.{VrfName}
 use Rattle.swss_types.proofs.Proper.{mapped}
-use Rattle.table_schema.specs.Names.{names_of, base_names, route_names}
+use Rattle.table_schema.specs.Names.{names_of, base_names, route_names, router_names}
 use Rattle.table_schema.specs.Plan.{Ports}
 use Rattle.table_schema.specs.Rows.{Rows}
 use Rattle.table_schema.specs.declared.key.Key.{Key}
@@ -32,14 +34,14 @@ use Rattle.sai_types.specs.Alike.{IsIn}
 use Rattle.sai_types.specs.Hop.{put_hop}
 use Rattle.sai_types.specs.Named.{first_lane}
 use Rattle.sai_types.specs.Names as thing_name
-use Rattle.sai_types.specs.Names.{ThingName, base_name, name_of, thing_references}
+use Rattle.sai_types.specs.Names.{ThingName, base_name, name_of, thing_references, with_router}
 use Rattle.sai_types.proofs.Things.{both_mapped}
 use Rattle.sai_types.proofs.Weights.{put-back}
 use Rattle.switch_model.specs.Desired.{IsClosed, IsThingOf, desired_view, have_rows, ready_rows}
 use Rattle.switch_model.specs.Good.{TypedRows, good_rows}
 use Rattle.switch_model.specs.References.{IsSelfContained}
 use Rattle.switch_model.specs.Things.{address_things, base_of, from_base, from_hops, from_lane, hop_of, hops_of, lane_of, members_of, route_things, route_to, things_of, whop_of}
-use Rattle.switch_model.proofs.ReadRows.{IsRead, IsRead-good, intf_read, neigh_read, port_read, vlan_read}
+use Rattle.switch_model.proofs.ReadRows.{IsRead, IsRead-good, intf_read, neigh_read, port_read, vlan_read, vrf_read}
 use Rattle.switch_model.proofs.Ready.{IsClosed-ready, ready-there}
 
 row_there : (o : Option Row) → is_some o ≡ true → (r : Row) × (o ≡ Some r)
@@ -54,6 +56,14 @@ two_there : (rows : TypedRows) (k q : Key) → have_rows rows (k ∷ q ∷ []) �
 two_there rows k q h =
     let parts = and_parts (is_some (rows k)) (have_rows rows (q ∷ [])) h in
     (row_there (rows k) parts.0, one_there rows q parts.1)
+
+-- the rows of the names of two lists
+both_there : (rows : TypedRows) (ks qs : List Key) → have_rows rows (ks ++ qs) ≡ true → (have_rows rows ks ≡ true) × (have_rows rows qs ≡ true)
+both_there rows [] qs h = (refl, h)
+both_there rows (k ∷ ks) qs h =
+    let parts = and_parts (is_some (rows k)) (have_rows rows (ks ++ qs)) h in
+    let behind = both_there rows ks qs parts.1 in
+    (and_from (is_some (rows k)) (have_rows rows ks) parts.0 behind.0, behind.1)
 
 some_is : (n m : ℕ) (o : Option ℕ) → o ≡ Some n → o ≡ Some m → n ≡ m
 some_is n m o h k = cc
@@ -93,6 +103,14 @@ module _ (plan : Ports) (rows : TypedRows) (closed : IsClosed rows) (read : (k :
 
   vlan_met : (vlan : ℕ) (r : Row) → rows (key.Vlan vlan) ≡ Some r → IsMet (thing_name.Vlan vlan)
   vlan_met vlan r is = met_by (key.Vlan vlan) row.Vlan (thing.Vlan vlan) (is ∙ ap Some (vlan_read plan vlan r (read (key.Vlan vlan) r is))) (inl refl)
+
+  router_met : (n : VrfName) (r : Row) → rows (key.Vrf n) ≡ Some r → IsMet (thing_name.VirtualRouter n)
+  router_met n r is = met_by (key.Vrf n) row.Vrf (thing.VirtualRouter n) (is ∙ ap Some (vrf_read plan n r (read (key.Vrf n) r is))) (inl refl)
+
+  -- names with that of a virtual router in front, whose row is there
+  in_router_met : (v : Vrf) (ks : List ThingName) → have_rows rows (router_names v) ≡ true → AllIn IsMet ks → AllIn IsMet (with_router v ks)
+  in_router_met vrf.Default ks routed all = all
+  in_router_met (vrf.Named n) ks routed all = let there = one_there rows (key.Vrf n) routed in (router_met n there.0 there.1, all)
 
   -- what an interface stands on
   base_met : (on : IfName) (b : Base) → have_rows rows (base_names on) ≡ true → base_of plan on ≡ Some b → IsMet (base_name b)
@@ -146,30 +164,30 @@ module _ (plan : Ports) (rows : TypedRows) (closed : IsClosed rows) (read : (k :
   members_met group (hop ∷ hops) whole all = ((whole, (all.0, tt)), members_met group hops whole all.1)
 
   -- a route's things
-  route_met : (prefix : Prefix) (group : List WHop) → AreHopsMet group → ((y : Thing) → IsIn y (route_to prefix group) → IsMet (name_of y)) → AllIn AreMet (route_to prefix group)
-  route_met prefix [] all there = tt
-  route_met prefix (hop ∷ []) all there = ((all.0, tt), tt)
-  route_met prefix (hop ∷ next ∷ hops) all there =
+  route_met : (v : Vrf) (prefix : Prefix) (group : List WHop) → have_rows rows (router_names v) ≡ true → AreHopsMet group → ((y : Thing) → IsIn y (route_to v prefix group) → IsMet (name_of y)) → AllIn AreMet (route_to v prefix group)
+  route_met v prefix [] routed all there = tt
+  route_met v prefix (hop ∷ []) routed all there = (in_router_met v _ routed (all.0, tt), tt)
+  route_met v prefix (hop ∷ next ∷ hops) routed all there =
       let group = hop ∷ next ∷ hops in
       let whole = there (thing.Group group) (inr (inl refl)) in
-      ((whole, tt), (tt, members_met group group whole all))
+      (in_router_met v _ routed (whole, tt), (tt, members_met group group whole all))
 
-  hops_by : (prefix : Prefix) (hops : List (RowHop × ℕ)) (o : Option (List WHop)) → rows (key.Route prefix) ≡ Some (row.Route (route.Hops hops)) → have_rows rows (map (λ h. key.Neigh h.0.on h.0.ip) hops) ≡ true → hops_of plan hops ≡ o → AllIn AreMet (from_hops prefix o)
-  hops_by prefix hops None is named at = tt
-  hops_by prefix hops (Some group) is named at =
-      route_met prefix group (hops_met hops group named at)
-      (λ y h. met_by (key.Route prefix) (row.Route (route.Hops hops)) y is (subst (λ o. IsIn y (from_hops prefix o)) (sym at) h))
+  hops_by : (v : Vrf) (prefix : Prefix) (hops : List (RowHop × ℕ)) (o : Option (List WHop)) → rows (key.Route v prefix) ≡ Some (row.Route (route.Hops hops)) → have_rows rows (router_names v) ≡ true → have_rows rows (map (λ h. key.Neigh h.0.on h.0.ip) hops) ≡ true → hops_of plan hops ≡ o → AllIn AreMet (from_hops v prefix o)
+  hops_by v prefix hops None is routed named at = tt
+  hops_by v prefix hops (Some group) is routed named at =
+      route_met v prefix group routed (hops_met hops group named at)
+      (λ y h. met_by (key.Route v prefix) (row.Route (route.Hops hops)) y is (subst (λ o. IsIn y (from_hops v prefix o)) (sym at) h))
 
-  direct_by : (prefix : Prefix) (on : IfName) (o : Option Base) → have_rows rows (key.Intf on ∷ []) ≡ true → base_of plan on ≡ o → AllIn AreMet (from_base (λ b. thing.Route vrf.Default prefix (goal.Direct b) ∷ []) o)
-  direct_by prefix on None named at = tt
-  direct_by prefix on (Some b) named at =
+  direct_by : (v : Vrf) (prefix : Prefix) (on : IfName) (o : Option Base) → have_rows rows (router_names v) ≡ true → have_rows rows (key.Intf on ∷ []) ≡ true → base_of plan on ≡ o → AllIn AreMet (from_base (λ b. thing.Route v prefix (goal.Direct b) ∷ []) o)
+  direct_by v prefix on None routed named at = tt
+  direct_by v prefix on (Some b) routed named at =
       let there = one_there rows (key.Intf on) named in
-      ((rif_met on b there.0 there.1 at, tt), tt)
+      (in_router_met v _ routed (rif_met on b there.0 there.1 at, tt), tt)
 
-  target_met : (prefix : Prefix) (target : RouteRow) → rows (key.Route prefix) ≡ Some (row.Route target) → have_rows rows (route_names target) ≡ true → AllIn AreMet (route_things plan prefix target)
-  target_met prefix route.Drop is named = (tt, tt)
-  target_met prefix (route.Direct on) is named = direct_by prefix on (base_of plan on) named refl
-  target_met prefix (route.Hops hops) is named = hops_by prefix hops (hops_of plan hops) is named refl
+  target_met : (v : Vrf) (prefix : Prefix) (target : RouteRow) → rows (key.Route v prefix) ≡ Some (row.Route target) → have_rows rows (router_names v) ≡ true → have_rows rows (route_names target) ≡ true → AllIn AreMet (route_things plan v prefix target)
+  target_met v prefix route.Drop is routed named = (in_router_met v [] routed tt, tt)
+  target_met v prefix (route.Direct on) is routed named = direct_by v prefix on (base_of plan on) routed named refl
+  target_met v prefix (route.Hops hops) is routed named = hops_by v prefix hops (hops_of plan hops) is routed named refl
 
   member_by : (vlan port : ℕ) (tagging : Tagging) (o : Option ℕ) → rows (key.Member vlan port) ≡ Some (row.Member tagging) → have_rows rows (key.Vlan vlan ∷ key.Port port ∷ []) ≡ true → lane_of plan port ≡ o → AllIn AreMet (from_lane (λ lane. thing.BridgePort lane ∷ thing.VlanMember vlan lane tagging ∷ []) o)
   member_by vlan port tagging None is named at = tt
@@ -205,11 +223,14 @@ module _ (plan : Ports) (rows : TypedRows) (closed : IsClosed rows) (read : (k :
   row_met : (k : Key) (r : Row) → rows k ≡ Some r → have_rows rows (names_of k r) ≡ true → AllIn AreMet (things_of plan k r)
   row_met (key.Port port) (row.Port p) is named = port_by port (λ lane. thing.Port (record { lanes = p.lanes; speed = p.speed; mtu = p.mtu; up = p.up })) (lane_of plan port) (λ lane. tt)
   row_met (key.Vlan vlan) row.Vlan is named = (tt, tt)
+  row_met (key.Vrf n) row.Vrf is named = (tt, tt)
   row_met (key.Member vlan port) (row.Member tagging) is named = member_by vlan port tagging (lane_of plan port) is named refl
   row_met (key.Intf on) row.Intf is named = rif_by on (base_of plan on) named refl
   row_met (key.Addr on ip len) row.Addr is named = own_by on ip
   row_met (key.Neigh on ip) (row.Neigh mac) is named = neigh_by on ip mac (base_of plan on) is named refl
-  row_met (key.Route prefix) (row.Route target) is named = target_met prefix target is named
+  row_met (key.Route v prefix) (row.Route target) is named =
+      let parts = both_there rows (router_names v) (route_names target) named in
+      target_met v prefix target is parts.0 parts.1
   row_met _ _ is named = tt
 
   -- closed rows that read have all that their things refer to

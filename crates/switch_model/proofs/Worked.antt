@@ -1,5 +1,5 @@
--- four small tables worked out by computation: nothing cites them, and they show that the definitions say what is meant
-use Rattle.std.proofs.Common.{◌≡◌, ◌⊎◌, inl, inr, ℕ, suc, Bool, true, false, cond, List, [], ◌∷◌, ◌++◌, Option, None, Some, Ok, Err, codes, refl, sym, ap, ◌∙◌, subst}
+-- small tables worked out by computation: nothing cites them, and they show that the definitions say what is meant
+use Rattle.std.proofs.Common.{◌≡◌, ◌⊎◌, inl, inr, ℕ, suc, Bool, true, false, cond, List, [], ◌∷◌, ◌++◌, replicate, Option, None, Some, Ok, Err, codes, refl, sym, ap, ◌∙◌, subst}
 use Rattle.std.specs.BTreeMap.{is_at}
 use Rattle.std.specs.Map.{keys_of}
 use Rattle.std.specs.List.Sorted.{IsStrictlySortedBy}
@@ -7,6 +7,7 @@ use Rattle.swss_types.specs.declared.address.Family.TheVariants.{V4}
 use Rattle.swss_types.specs.declared.address.Prefix.{Prefix}
 use Rattle.swss_types.specs.declared.interface.IfName.TheVariants as name
 use Rattle.swss_types.specs.declared.vrf.Vrf.TheVariants as vrf
+use Rattle.swss_types.specs.declared.vrf.VrfName.{VrfName}
 use Rattle.table_schema.specs.Fields.{Pairs}
 use Rattle.table_schema.specs.Key.{key_cmp}
 use Rattle.table_schema.specs.KeyText.{key_of}
@@ -18,6 +19,8 @@ use Rattle.table_schema.specs.declared.key.Key.{Key}
 use Rattle.table_schema.specs.declared.key.Key.TheVariants as key
 use Rattle.table_schema.specs.declared.row.BadWhy.TheVariants.{HostBits}
 use Rattle.table_schema.specs.declared.row.Row.{Row}
+use Rattle.table_schema.specs.declared.row.Row.TheVariants as row
+use Rattle.table_schema.specs.declared.row.RouteRow.TheVariants as route
 use Rattle.table_schema.specs.declared.write.Sent.{Sent}
 use Rattle.table_schema.specs.declared.write.Write.{Write}
 use Rattle.table_schema.specs.declared.write.Write.TheVariants as write
@@ -203,7 +206,7 @@ host_bits = key.Other (codes "ROUTE_TABLE:10.0.0.9/24")
 abbrev nine : Prefix
 nine = record { ip = record { family = V4; bits = 167772169 }; len = 32 }
 
-spellings : (key_of (codes "ROUTE_TABLE:10.0.0.9") ≡ key.Route nine) × (key_of (codes "ROUTE_TABLE:10.0.0.9/32") ≡ key.Route nine) × (key_of (codes "ROUTE_TABLE:10.0.0.9/24") ≡ host_bits)
+spellings : (key_of (codes "ROUTE_TABLE:10.0.0.9") ≡ key.Route vrf.Default nine) × (key_of (codes "ROUTE_TABLE:10.0.0.9/32") ≡ key.Route vrf.Default nine) × (key_of (codes "ROUTE_TABLE:10.0.0.9/24") ≡ host_bits)
 spellings = (refl, refl, refl)
 
 abbrev spelled_writes : List Write
@@ -213,7 +216,7 @@ spelled_writes =
     ∷ set (codes "ROUTE_TABLE:10.0.0.9/24") ((codes "blackhole", codes "true") ∷ [])
     ∷ []
 
-spelled_rows : rows_of spelled_writes ≡ (key.Route nine, (codes "blackhole", codes "true") ∷ (codes "protocol", codes "static") ∷ []) ∷ (host_bits, (codes "blackhole", codes "true") ∷ []) ∷ []
+spelled_rows : rows_of spelled_writes ≡ (key.Route vrf.Default nine, (codes "blackhole", codes "true") ∷ (codes "protocol", codes "static") ∷ []) ∷ (host_bits, (codes "blackhole", codes "true") ∷ []) ∷ []
 spelled_rows = refl
 
 host_bits_are_bad : row_of [] host_bits ((codes "blackhole", codes "true") ∷ []) ≡ Err (record { why = HostBits; field = 0 })
@@ -221,3 +224,22 @@ host_bits_are_bad = refl
 
 spelled_view : IsExactly (desired_view [] (rows_of spelled_writes)) (thing.Route vrf.Default nine goal.Drop ∷ [])
 spelled_view = view_is [] (rows_of spelled_writes)
+
+-- A virtual router with a route in it. Without its row there is neither.
+abbrev red : VrfName
+red = record { 0 = codes "red" ++ replicate 9 0 }
+
+abbrev red_route : Write
+red_route = write.Set (key.Route (vrf.Named red) nine) ((codes "blackhole", codes "true") ∷ [])
+
+abbrev red_writes : List Write
+red_writes = red_route ∷ write.Set (key.Vrf red) ((codes "NULL", codes "NULL") ∷ []) ∷ []
+
+red_names : names_of (key.Route (vrf.Named red) nine) (row.Route route.Drop) ≡ key.Vrf red ∷ []
+red_names = refl
+
+red_view : IsExactly (desired_view [] (rows_of red_writes)) (thing.VirtualRouter red ∷ thing.Route (vrf.Named red) nine goal.Drop ∷ [])
+red_view = view_is [] (rows_of red_writes)
+
+red_alone : IsExactly (desired_view [] (rows_of (red_route ∷ []))) []
+red_alone = view_is [] (rows_of (red_route ∷ []))

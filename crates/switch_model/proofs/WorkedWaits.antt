@@ -6,6 +6,7 @@ use Rattle.std.specs.List.Sorted.{IsStrictlySortedBy}
 use Rattle.swss_types.specs.declared.address.Family.TheVariants.{V4}
 use Rattle.swss_types.specs.declared.address.Ip.{Ip}
 use Rattle.swss_types.specs.declared.interface.IfName.TheVariants as name
+use Rattle.swss_types.specs.declared.vrf.Vrf.TheVariants as vrf
 use Rattle.table_schema.specs.Key.{key_cmp}
 use Rattle.table_schema.specs.KeyText.{key_of}
 use Rattle.table_schema.specs.Names.{names_of}
@@ -45,7 +46,7 @@ three = record { family = V4; bits = 167772163 }
 
 -- A route whose neighbour is missing.
 abbrev lone_route : Key
-lone_route = key.Route (record { ip = record { family = V4; bits = 167837696 }; len = 16 })
+lone_route = key.Route vrf.Default (record { ip = record { family = V4; bits = 167837696 }; len = 16 })
 
 abbrev neighbour : Key
 neighbour = key.Neigh (name.Ethernet 0) one

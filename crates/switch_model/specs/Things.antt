@@ -4,6 +4,7 @@ use Rattle.swss_types.specs.declared.address.Ip.{Ip}
 use Rattle.swss_types.specs.declared.address.Prefix.{Prefix}
 use Rattle.swss_types.specs.declared.interface.IfName.{IfName}
 use Rattle.swss_types.specs.declared.interface.IfName.TheVariants as name
+use Rattle.swss_types.specs.declared.vrf.Vrf.{Vrf}
 use Rattle.swss_types.specs.declared.vrf.Vrf.TheVariants as vrf
 use Rattle.table_schema.specs.declared.key.Key.{Key}
 use Rattle.table_schema.specs.declared.key.Key.TheVariants as key
@@ -51,16 +52,16 @@ members_of group [] = []
 members_of group (hop ∷ hops) = thing.GroupMember group hop ∷ members_of group hops
 
 -- a route to one hop, whose weight says nothing, or to a group of hops, which it brings along
-abbrev pub route_to : Prefix → List WHop → List Thing
-route_to prefix [] = []
-route_to prefix (hop ∷ []) = thing.Route vrf.Default prefix (goal.Via hop.hop) ∷ []
-route_to prefix (hop ∷ next ∷ hops) =
+abbrev pub route_to : Vrf → Prefix → List WHop → List Thing
+route_to v prefix [] = []
+route_to v prefix (hop ∷ []) = thing.Route v prefix (goal.Via hop.hop) ∷ []
+route_to v prefix (hop ∷ next ∷ hops) =
     let group = hop ∷ next ∷ hops in
-    thing.Route vrf.Default prefix (goal.Group group) ∷ thing.Group group ∷ members_of group group
+    thing.Route v prefix (goal.Group group) ∷ thing.Group group ∷ members_of group group
 
-abbrev pub from_hops : Prefix → Option (List WHop) → List Thing
-from_hops prefix None = []
-from_hops prefix (Some hops) = route_to prefix hops
+abbrev pub from_hops : Vrf → Prefix → Option (List WHop) → List Thing
+from_hops v prefix None = []
+from_hops v prefix (Some hops) = route_to v prefix hops
 
 abbrev pub from_base : (Base → List Thing) → Option Base → List Thing
 from_base f None = []
@@ -70,10 +71,10 @@ abbrev pub from_lane : (ℕ → List Thing) → Option ℕ → List Thing
 from_lane f None = []
 from_lane f (Some lane) = f lane
 
-abbrev pub route_things : Ports → Prefix → RouteRow → List Thing
-route_things plan prefix route.Drop = thing.Route vrf.Default prefix goal.Drop ∷ []
-route_things plan prefix (route.Direct on) = from_base (λ b. thing.Route vrf.Default prefix (goal.Direct b) ∷ []) (base_of plan on)
-route_things plan prefix (route.Hops hops) = from_hops prefix (hops_of plan hops)
+abbrev pub route_things : Ports → Vrf → Prefix → RouteRow → List Thing
+route_things plan v prefix route.Drop = thing.Route v prefix goal.Drop ∷ []
+route_things plan v prefix (route.Direct on) = from_base (λ b. thing.Route v prefix (goal.Direct b) ∷ []) (base_of plan on)
+route_things plan v prefix (route.Hops hops) = from_hops v prefix (hops_of plan hops)
 
 -- the address of an interface, which is the switch's own: none where its port is not in the plan
 abbrev pub address_things : Ports → IfName → Ip → List Thing
@@ -81,13 +82,14 @@ address_things plan (name.Ethernet port) ip = from_lane (λ lane. thing.Own vrf.
 address_things plan (name.Vlan vlan) ip = thing.Own vrf.Default ip ∷ []
 address_things plan (name.Loopback number) ip = thing.Own vrf.Default ip ∷ []
 
--- the things of a row, in the default router: none for a loopback interface, whose addresses have theirs, nor where a port is not in the plan
+-- the things of a row, an interface and its addresses in the default router: none for a loopback interface, whose addresses have theirs, nor where a port is not in the plan
 abbrev pub things_of : Ports → Key → Row → List Thing
 things_of plan (key.Port port) (row.Port r) = from_lane (λ lane. thing.Port (record { lanes = r.lanes; speed = r.speed; mtu = r.mtu; up = r.up }) ∷ []) (lane_of plan port)
 things_of plan (key.Vlan vlan) row.Vlan = thing.Vlan vlan ∷ []
+things_of plan (key.Vrf n) row.Vrf = thing.VirtualRouter n ∷ []
 things_of plan (key.Member vlan port) (row.Member tagging) = from_lane (λ lane. thing.BridgePort lane ∷ thing.VlanMember vlan lane tagging ∷ []) (lane_of plan port)
 things_of plan (key.Intf on) row.Intf = from_base (λ b. thing.Rif b vrf.Default ∷ []) (base_of plan on)
 things_of plan (key.Addr on ip len) row.Addr = address_things plan on ip
 things_of plan (key.Neigh on ip) (row.Neigh mac) = from_base (λ b. thing.Neighbor (record { on = b; ip = ip }) mac ∷ thing.NextHop (record { on = b; ip = ip }) ∷ []) (base_of plan on)
-things_of plan (key.Route prefix) (row.Route r) = route_things plan prefix r
+things_of plan (key.Route v prefix) (row.Route r) = route_things plan v prefix r
 things_of plan _ _ = []

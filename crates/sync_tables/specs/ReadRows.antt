@@ -25,9 +25,10 @@ IsKeyForgotten old key new = (other : Key) → read_at new other ≡ (if is_at (
 abbrev pub is_plan_free : Key → Bool
 is_plan_free (key.Port port) = false
 is_plan_free (key.Vlan vlan) = false
+is_plan_free (key.Vrf n) = false
 is_plan_free (key.Member vlan port) = false
 is_plan_free (key.Intf on) = false
 is_plan_free (key.Addr on ip len) = false
 is_plan_free (key.Neigh on ip) = true
-is_plan_free (key.Route prefix) = true
+is_plan_free (key.Route v prefix) = true
 is_plan_free (key.Other text) = false

@@ -116,5 +116,5 @@ fn forget(read: &mut LateMap<Key, Row>, key: &Key)
 fn is_plan_free(key: &Key) -> bool
     ensures { result ≡ is_plan_free key.now }
 {
-    matches!(key, Key::Neigh(..) | Key::Route(_))
+    matches!(key, Key::Neigh(..) | Key::Route(..))
 }

@@ -9,6 +9,7 @@ use Rattle.swss_types.specs.declared.address.Ip.{Ip}
 use Rattle.swss_types.specs.declared.address.Prefix.{Prefix}
 use Rattle.swss_types.specs.declared.interface.IfName.{IfName}
 use Rattle.swss_types.specs.declared.interface.IfName.TheVariants as name
+use Rattle.swss_types.specs.declared.vrf.Vrf.TheVariants as vrf
 use Rattle.swss_types.proofs.Proper.{IsProperIfName-if_name_of, IsProperIp-ip_of, IsProper-interface_address_of, IsProperPrefix-prefix_of}
 use Rattle.table_schema.specs.KeyText.{key_of, key_at, known_key, table_of, or_other, on_switch, vlan_key, port_key, member_of, member_key, intf_key, addr_key, neigh_of, neigh_key}
 use Rattle.table_schema.specs.ProperKey.{IsProperKey, IsReadKey}
@@ -76,9 +77,9 @@ typed_neigh_in : (o : Option (List ℕ × List ℕ)) (k : Key) → neigh_key o �
 typed_neigh_in None k h = cc
 typed_neigh_in (Some parts) k h = typed_neigh (on_switch (if_name_of parts.0)) (ip_of parts.1) k (proper_on_switch parts.0) (IsProperIp-ip_of parts.1) h
 
-typed_route : (o : Option Prefix) (k : Key) → ((p : Prefix) → o ≡ Some p → IsProperPrefix p) → option_map Route o ≡ Some k → IsTyped k
+typed_route : (o : Option Prefix) (k : Key) → ((p : Prefix) → o ≡ Some p → IsProperPrefix p) → option_map (Route vrf.Default) o ≡ Some k → IsTyped k
 typed_route None k proper h = cc
-typed_route (Some p) k proper h = let is : Route p ≡ k = cc in subst IsTyped is (proper p refl)
+typed_route (Some p) k proper h = let is : Route vrf.Default p ≡ k = cc in subst IsTyped is (proper p refl)
 
 typed_at : (t : Option Table) (rest : List ℕ) (k : Key) → key_at t rest ≡ Some k → IsTyped k
 typed_at None rest k h = cc

@@ -8,6 +8,7 @@ use Rattle.swss_types.specs.Parts.{parts_at}
 use Rattle.swss_types.specs.declared.address.Ip.{Ip}
 use Rattle.swss_types.specs.declared.interface.IfName.{IfName}
 use Rattle.swss_types.specs.declared.interface.IfName.TheVariants as name
+use Rattle.swss_types.specs.declared.vrf.Vrf.TheVariants as vrf
 use Rattle.swss_types.proofs.Proper.{IsProperIp-ip_of}
 use Rattle.table_schema.specs.Broken.{bad, and_then}
 use Rattle.table_schema.specs.Fields.{Pairs, value_of}
@@ -130,11 +131,13 @@ proper_base (name.Loopback number) h = tt
 pub AreProperKeys-names_of : (plan : Ports) (k : Key) (fields : Pairs) (r : Row) → IsProperKey k → row_of plan k fields ≡ Ok r → AreProperKeys (names_of k r)
 AreProperKeys-names_of plan (key.Port port) fields r h e = tt
 AreProperKeys-names_of plan (key.Vlan vlan) fields r h e = tt
+AreProperKeys-names_of plan (key.Vrf n) fields r h e = tt
 AreProperKeys-names_of plan (key.Member vlan port) fields r h e = (IsProperKey-typed (key.Vlan vlan) h.parts.0, (IsProperKey-typed (key.Port port) h.parts.1, tt))
 AreProperKeys-names_of plan (key.Intf on) fields r h e = proper_base on h.parts
 AreProperKeys-names_of plan (key.Addr on ip len) fields r h e = (IsProperKey-typed (key.Intf on) h.parts.0, tt)
 AreProperKeys-names_of plan (key.Neigh on ip) fields r h e = (IsProperKey-typed (key.Intf on) h.parts.0, tt)
-AreProperKeys-names_of plan (key.Route prefix) fields r h e =
+AreProperKeys-names_of plan (key.Route (vrf.Named n) prefix) fields r h e = elim h.parts [ ]
+AreProperKeys-names_of plan (key.Route vrf.Default prefix) fields r h e =
     let parts = both_hold (route_row_of fields) (λ target. Ok (row.Route target)) r e in
     let is : row.Route parts.0 ≡ r = ok_is (row.Route parts.0) r parts.2 in
     subst (λ x. AreProperKeys (names_of_route x)) is (proper_targets parts.0 (typed_route fields parts.0 parts.1))

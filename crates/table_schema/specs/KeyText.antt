@@ -1,11 +1,14 @@
 -- The texts of keys (SWSS schema): a table's name, `:` and the parts of the key.
-use Rattle.std.specs.Prelude.{ℕ, List, ◌++◌, Option, Some, None, option_map, codes, bytes_eq, if◌then◌else◌}
+use Rattle.std.specs.Prelude.{ℕ, List, [], ◌++◌, Option, Some, None, option_map, codes, bytes_eq, if◌then◌else◌}
 use Rattle.swss_types.specs.Interface.{if_name_of, if_name_text}
 use Rattle.swss_types.specs.Ip.{ip_of, ip_text}
 use Rattle.swss_types.specs.Prefix.{interface_address_of, interface_address_text, prefix_of, prefix_text}
 use Rattle.swss_types.specs.declared.address.Ip.{Ip}
 use Rattle.swss_types.specs.declared.interface.IfName.{IfName}
 use Rattle.swss_types.specs.declared.interface.IfName.TheVariants as name
+use Rattle.swss_types.specs.VrfNames.{vrf_name_text}
+use Rattle.swss_types.specs.declared.vrf.Vrf.{Vrf}
+use Rattle.swss_types.specs.declared.vrf.Vrf.TheVariants as vrf
 use Rattle.table_schema.specs.Split.{split_once}
 use Rattle.table_schema.specs.declared.key.Key.{Key}
 use Rattle.table_schema.specs.declared.key.Key.TheVariants as key
@@ -76,14 +79,14 @@ abbrev pub neigh_key : Option (List ℕ × List ℕ) → Option Key
 neigh_key None = None
 neigh_key (Some parts) = neigh_of (on_switch (if_name_of parts.0)) (ip_of parts.1)
 
--- the key of a table whose text behind the table's name this is
+-- the key of a table, of which that of virtual routers is not read yet, nor a route's router, whose text behind the table's name this is
 abbrev pub key_in : Table → List ℕ → Option Key
 key_in table.Port rest = port_key (if_name_of rest)
 key_in table.Vlan rest = vlan_key (if_name_of rest)
 key_in table.Member rest = member_key (split_once 58 rest)
 key_in table.Intf rest = intf_key rest (split_once 58 rest)
 key_in table.Neigh rest = neigh_key (split_once 58 rest)
-key_in table.Route rest = option_map key.Route (prefix_of rest)
+key_in table.Route rest = option_map (key.Route vrf.Default) (prefix_of rest)
 
 abbrev pub key_at : Option Table → List ℕ → Option Key
 key_at None rest = None
@@ -101,13 +104,19 @@ or_other text (Some k) = k
 abbrev pub key_of : List ℕ → Key
 key_of text = or_other text (known_key (split_once 58 text))
 
+-- a router before what is in it: nothing for the default one
+abbrev pub router_text : Vrf → List ℕ
+router_text vrf.Default = []
+router_text (vrf.Named n) = vrf_name_text n ++ codes ":"
+
 -- the written key
 abbrev pub key_text : Key → List ℕ
 key_text (key.Port port) = codes "PORT_TABLE:" ++ if_name_text (name.Ethernet port)
 key_text (key.Vlan vlan) = codes "VLAN_TABLE:" ++ if_name_text (name.Vlan vlan)
+key_text (key.Vrf n) = codes "VRF_TABLE:" ++ vrf_name_text n
 key_text (key.Member vlan port) = (codes "VLAN_MEMBER_TABLE:" ++ if_name_text (name.Vlan vlan)) ++ (codes ":" ++ if_name_text (name.Ethernet port))
 key_text (key.Intf on) = codes "INTF_TABLE:" ++ if_name_text on
 key_text (key.Addr on ip len) = (codes "INTF_TABLE:" ++ if_name_text on) ++ (codes ":" ++ interface_address_text ip len)
 key_text (key.Neigh on ip) = (codes "NEIGH_TABLE:" ++ if_name_text on) ++ (codes ":" ++ ip_text ip)
-key_text (key.Route prefix) = codes "ROUTE_TABLE:" ++ prefix_text prefix
+key_text (key.Route v prefix) = (codes "ROUTE_TABLE:" ++ router_text v) ++ prefix_text prefix
 key_text (key.Other text) = text

@@ -1,7 +1,9 @@
 -- What a row names: the keys of the rows that it stands on (own).
-use Rattle.std.specs.Prelude.{List, [], ◌∷◌, map}
+use Rattle.std.specs.Prelude.{List, [], ◌∷◌, ◌++◌, map}
 use Rattle.swss_types.specs.declared.interface.IfName.{IfName}
 use Rattle.swss_types.specs.declared.interface.IfName.TheVariants as name
+use Rattle.swss_types.specs.declared.vrf.Vrf.{Vrf}
+use Rattle.swss_types.specs.declared.vrf.Vrf.TheVariants as vrf
 use Rattle.table_schema.specs.declared.key.Key.{Key}
 use Rattle.table_schema.specs.declared.key.Key.TheVariants as key
 use Rattle.table_schema.specs.declared.row.Row.{Row}
@@ -14,6 +16,11 @@ abbrev pub base_names : IfName → List Key
 base_names (name.Ethernet port) = key.Port port ∷ []
 base_names (name.Vlan vlan) = key.Vlan vlan ∷ []
 base_names (name.Loopback number) = []
+
+-- what is in a virtual router stands on the router's row, unless it is the default one
+abbrev pub router_names : Vrf → List Key
+router_names vrf.Default = []
+router_names (vrf.Named n) = key.Vrf n ∷ []
 
 -- a route stands on its interface, or on the neighbours that are its hops
 abbrev pub route_names : RouteRow → List Key
@@ -29,9 +36,10 @@ names_of_route _ = []
 abbrev pub names_of : Key → Row → List Key
 names_of (key.Port port) r = []
 names_of (key.Vlan vlan) r = []
+names_of (key.Vrf n) r = []
 names_of (key.Member vlan port) r = key.Vlan vlan ∷ key.Port port ∷ []
 names_of (key.Intf on) r = base_names on
 names_of (key.Addr on ip len) r = key.Intf on ∷ []
 names_of (key.Neigh on ip) r = key.Intf on ∷ []
-names_of (key.Route prefix) r = names_of_route r
+names_of (key.Route v prefix) r = router_names v ++ names_of_route r
 names_of (key.Other text) r = []

@@ -99,9 +99,10 @@ other_row (Some parts) = if bytes_eq parts.0 (codes "ROUTE_TABLE") && has_host_b
 abbrev pub row_of : Ports → Key → Pairs → Result Row BadRow
 row_of plan (key.Port port) fields = port_row_of plan port fields
 row_of plan (key.Vlan vlan) fields = Ok row.Vlan
+row_of plan (key.Vrf n) fields = Ok row.Vrf
 row_of plan (key.Member vlan port) fields = member_row_of fields
 row_of plan (key.Intf on) fields = intf_row_of fields
 row_of plan (key.Addr on ip len) fields = Ok row.Addr
 row_of plan (key.Neigh on ip) fields = neigh_row_of fields
-row_of plan (key.Route prefix) fields = and_then (route_row_of fields) (λ target. Ok (row.Route target))
+row_of plan (key.Route v prefix) fields = and_then (route_row_of fields) (λ target. Ok (row.Route target))
 row_of plan (key.Other text) fields = other_row (split_once 58 text)

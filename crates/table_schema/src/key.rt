@@ -3,7 +3,7 @@ ghost use Rattle.std.specs.Prelude.{◌≡◌, IfOk};
 ghost use Rattle.table_schema.specs.Key.{key_cmp, key_total, keys_agree, keys_tie, part_cmp, table_place};
 
 use std::cmp::Ordering;
-use swss_types::{IfName, Ip, OutOfMemory, Prefix, Text};
+use swss_types::{IfName, Ip, OutOfMemory, Prefix, Text, Vrf, VrfName};
 
 /// The key of a row of an application table. Keys are ordered by table, ports first, and unreadable keys last.
 #[derive(Debug, PartialEq, Eq, PartialOrd, Drop)]
@@ -12,6 +12,8 @@ pub enum Key {
     Port(u32),
     /// A VLAN: VLAN_TABLE.
     Vlan(u16),
+    /// A virtual router: VRF_TABLE.
+    Vrf(VrfName),
     /// A port in a VLAN, the VLAN first: VLAN_MEMBER_TABLE.
     Member(u16, u32),
     /// An interface: INTF_TABLE.
@@ -20,8 +22,8 @@ pub enum Key {
     Addr(IfName, Ip, u8),
     /// A neighbour on an interface: NEIGH_TABLE.
     Neigh(IfName, Ip),
-    /// A route: ROUTE_TABLE.
-    Route(Prefix),
+    /// A route, by its virtual router and its prefix: ROUTE_TABLE.
+    Route(Vrf, Prefix),
     /// A text that reads as none of the others.
     Other(Text),
 }
@@ -35,11 +37,12 @@ impl Key {
         match self {
             Key::Port(port) => Ok(Key::Port(*port)),
             Key::Vlan(vlan) => Ok(Key::Vlan(*vlan)),
+            Key::Vrf(name) => Ok(Key::Vrf(*name)),
             Key::Member(vlan, port) => Ok(Key::Member(*vlan, *port)),
             Key::Intf(on) => Ok(Key::Intf(*on)),
             Key::Addr(on, ip, len) => Ok(Key::Addr(*on, *ip, *len)),
             Key::Neigh(on, ip) => Ok(Key::Neigh(*on, *ip)),
-            Key::Route(prefix) => Ok(Key::Route(*prefix)),
+            Key::Route(vrf, prefix) => Ok(Key::Route(*vrf, *prefix)),
             Key::Other(text) => Ok(Key::Other(text.copy()?)),
         }
     }
@@ -52,12 +55,13 @@ impl Key {
         match self {
             Key::Port(_) => 0,
             Key::Vlan(_) => 1,
-            Key::Member(_, _) => 2,
-            Key::Intf(_) => 3,
-            Key::Addr(_, _, _) => 4,
-            Key::Neigh(_, _) => 5,
-            Key::Route(_) => 6,
-            Key::Other(_) => 7,
+            Key::Vrf(_) => 2,
+            Key::Member(_, _) => 3,
+            Key::Intf(_) => 4,
+            Key::Addr(_, _, _) => 5,
+            Key::Neigh(_, _) => 6,
+            Key::Route(_, _) => 7,
+            Key::Other(_) => 8,
         }
     }
 
@@ -66,9 +70,12 @@ impl Key {
     fn cmp_alike(&self, other: &Key) -> Ordering
         ensures { result ≡ part_cmp self.now other.now }
     {
-        if let Key::Route(prefix) = self {
-            if let Key::Route(than) = other {
-                return prefix.cmp(than);
+        if let Key::Route(vrf, prefix) = self {
+            if let Key::Route(than, than_prefix) = other {
+                return match vrf.cmp(than) {
+                    Ordering::Equal => prefix.cmp(than_prefix),
+                    order => order,
+                };
             }
         }
         match (self, other) {
@@ -94,6 +101,7 @@ impl Key {
         match (self, other) {
             (Key::Port(port), Key::Port(than)) => port.cmp(than),
             (Key::Vlan(vlan), Key::Vlan(than)) => vlan.cmp(than),
+            (Key::Vrf(name), Key::Vrf(than)) => name.cmp(than),
             (Key::Member(vlan, port), Key::Member(than, than_port)) => match vlan.cmp(than) {
                 Ordering::Equal => port.cmp(than_port),
                 order => order,
@@ -110,7 +118,10 @@ impl Key {
                 Ordering::Equal => ip.cmp(than_ip),
                 order => order,
             },
-            (Key::Route(prefix), Key::Route(than)) => prefix.cmp(than),
+            (Key::Route(vrf, prefix), Key::Route(than, than_prefix)) => match vrf.cmp(than) {
+                Ordering::Equal => prefix.cmp(than_prefix),
+                order => order,
+            },
             (Key::Other(text), Key::Other(than)) => text.cmp(than),
             _ => Ordering::Equal,
         }

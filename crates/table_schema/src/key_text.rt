@@ -1,19 +1,21 @@
 // Keys as they are read and written.
 ghost use Rattle.std.specs.Prelude.{◌≡◌, ◌++◌, ◌↔◌, codes, IfOk, IsTrue, OnOk, OnErr, Contains, length, option_map, take};
 ghost use Rattle.std.specs.Str.{IsUtf8};
-ghost use Rattle.table_schema.specs.KeyText.{addr_key, intf_key, key_in, key_of, key_text, known_key, member_key, neigh_key, on_switch, port_key, table_of, vlan_key};
+ghost use Rattle.table_schema.specs.KeyText.{addr_key, intf_key, key_in, key_of, key_text, known_key, member_key, neigh_key, on_switch, port_key, router_text, table_of, vlan_key};
 ghost use Rattle.table_schema.specs.ProperKey.{IsProperKey};
 ghost use Rattle.table_schema.specs.Split.{split_once};
 ghost use Rattle.swss_types.specs.Interface.{if_name_of, if_name_text};
 ghost use Rattle.swss_types.specs.Prefix.{interface_address_of, interface_address_text};
 ghost use Rattle.swss_types.specs.Ip.{ip_text};
+ghost use Rattle.swss_types.specs.VrfNames.{vrf_name_text};
 
 use crate::Key;
 use crate::split::split_once;
 use crate::table::Table;
 use std::alloc::Global;
 use swss_types::{
-    IfName, Ip, OutOfMemory, Prefix, Text, read_interface_address, write_interface_address,
+    IfName, Ip, OutOfMemory, Prefix, Text, Vrf, VrfName, read_interface_address,
+    write_interface_address,
 };
 
 /// Whether a text has a colon, so that it is a key's.
@@ -79,7 +81,7 @@ fn read_key_in(table: Table, rest: &[u8]) -> Option<Key>
         Table::Member => read_member(rest),
         Table::Intf => read_intf(rest),
         Table::Neigh => read_neigh(rest),
-        Table::Route => Prefix::read(rest).map(Key::Route),
+        Table::Route => Some(Key::Route(Vrf::Default, Prefix::read(rest)?)),
     }
 }
 
@@ -172,6 +174,7 @@ impl Key {
         match self {
             Key::Port(port) => write_named(out, b"PORT_TABLE:", IfName::Ethernet(*port)),
             Key::Vlan(vlan) => write_named(out, b"VLAN_TABLE:", IfName::Vlan(*vlan)),
+            Key::Vrf(name) => write_vrf(out, b"VRF_TABLE:", *name),
             Key::Member(vlan, port) => {
                 write_named(out, b"VLAN_MEMBER_TABLE:", IfName::Vlan(*vlan))?;
                 write_named(out, b":", IfName::Ethernet(*port))
@@ -185,8 +188,8 @@ impl Key {
                 write_named(out, b"NEIGH_TABLE:", *on)?;
                 write_ip(out, *ip)
             }
-            Key::Route(prefix) => {
-                out.extend_from_slice(b"ROUTE_TABLE:")?;
+            Key::Route(vrf, prefix) => {
+                write_routes(out, *vrf)?;
                 prefix.write(out)
             }
             Key::Other(text) => {
@@ -204,6 +207,40 @@ fn write_named(out: &mut Vec<u8>, word: &[u8], name: IfName) -> Result<(), OutOf
 {
     out.extend_from_slice(word)?;
     name.write(out)
+}
+
+/// Appends a word and the name of a virtual router. An Err may leave a part of them.
+fn write_vrf(out: &mut Vec<u8>, word: &[u8], name: VrfName) -> Result<(), OutOfMemory>
+    ensures ok { OnOk result (out.new.items ≡ out.old.items ++ (word.now ++ vrf_name_text name)) }
+    ensures err { OnErr result (take (length out.old.items) out.new.items ≡ out.old.items) }
+{
+    out.extend_from_slice(word)?;
+    name.write(out)
+}
+
+/// Appends the table of routes, and the virtual router that one is in unless it is the default one. An Err may leave a part
+/// of them.
+fn write_routes(out: &mut Vec<u8>, vrf: Vrf) -> Result<(), OutOfMemory>
+    ensures ok { OnOk result (out.new.items ≡ out.old.items ++ (codes "ROUTE_TABLE:" ++ router_text vrf)) }
+    ensures err { OnErr result (take (length out.old.items) out.new.items ≡ out.old.items) }
+{
+    out.extend_from_slice(b"ROUTE_TABLE:")?;
+    write_router(out, vrf)
+}
+
+/// Appends a virtual router before what is in it. An Err may leave a part of it.
+fn write_router(out: &mut Vec<u8>, vrf: Vrf) -> Result<(), OutOfMemory>
+    ensures ok { OnOk result (out.new.items ≡ out.old.items ++ router_text vrf) }
+    ensures err { OnErr result (take (length out.old.items) out.new.items ≡ out.old.items) }
+{
+    match vrf {
+        Vrf::Default => Ok(()),
+        Vrf::Named(name) => {
+            name.write(out)?;
+            out.push(b':')?;
+            Ok(())
+        }
+    }
 }
 
 /// Appends a colon and an interface address. An Err may leave a part of them.

@@ -1,10 +1,10 @@
 // What a row names.
-ghost use Rattle.std.specs.Prelude.{◌≡◌, IfOk, map, slice_get};
-ghost use Rattle.table_schema.specs.Names.{base_names, names_of, route_names};
+ghost use Rattle.std.specs.Prelude.{◌≡◌, ◌++◌, IfOk, OnOk, map, slice_get};
+ghost use Rattle.table_schema.specs.Names.{base_names, names_of, names_of_route, route_names, router_names};
 
 use crate::{Key, RouteRow, Row, RowHop};
 use std::alloc::Global;
-use swss_types::{IfName, OutOfMemory};
+use swss_types::{IfName, OutOfMemory, Vrf};
 
 /// The keys of the rows that a row of this key stands on, in order.
 pub fn names(alloc: Global, key: &Key, row: &Row) -> Result<Vec<Key>, OutOfMemory>
@@ -14,7 +14,7 @@ pub fn names(alloc: Global, key: &Key, row: &Row) -> Result<Vec<Key>, OutOfMemor
         (Key::Member(vlan, port), _) => Ok(vec![in alloc; Key::Vlan(*vlan), Key::Port(*port)]?),
         (Key::Intf(on), _) => base_names(alloc, *on),
         (Key::Addr(on, ..) | Key::Neigh(on, _), _) => Ok(vec![in alloc; Key::Intf(*on)]?),
-        (Key::Route(_), Row::Route(target)) => route_names(alloc, target),
+        (Key::Route(vrf, _), _) => names_of_route(alloc, *vrf, row),
         _ => Ok(Vec::new(alloc)),
     }
 }
@@ -27,7 +27,8 @@ pub fn first_name(key: &Key, row: &Row) -> Option<Key>
         (Key::Member(vlan, _), _) => Some(Key::Vlan(*vlan)),
         (Key::Intf(on), _) => base_name(*on),
         (Key::Addr(on, ..) | Key::Neigh(on, _), _) => Some(Key::Intf(*on)),
-        (Key::Route(_), Row::Route(target)) => first_route_name(target),
+        (Key::Route(Vrf::Named(name), _), _) => Some(Key::Vrf(*name)),
+        (Key::Route(Vrf::Default, _), Row::Route(target)) => first_route_name(target),
         _ => None,
     }
 }
@@ -68,24 +69,46 @@ fn base_names(alloc: Global, on: IfName) -> Result<Vec<Key>, OutOfMemory>
     }
 }
 
-/// The interface of a route, or the neighbours that are its hops.
-fn route_names(alloc: Global, target: &RouteRow) -> Result<Vec<Key>, OutOfMemory>
-    ensures { IfOk result (λ names. names.items ≡ route_names target.now) }
+/// The virtual router of a route, unless that is the default one, and then what the route's row stands on.
+fn names_of_route(alloc: Global, vrf: Vrf, row: &Row) -> Result<Vec<Key>, OutOfMemory>
+    ensures { IfOk result (λ names. names.items ≡ router_names vrf ++ names_of_route row.now) }
 {
-    match target {
-        RouteRow::Drop => Ok(Vec::new(alloc)),
-        RouteRow::Direct(on) => Ok(vec![in alloc; Key::Intf(*on)]?),
-        RouteRow::Hops(hops) => hop_names(alloc, hops.items()),
+    let mut names = router_names(alloc, vrf)?;
+    let Row::Route(target) = row else {
+        return Ok(names);
+    };
+    push_route_names(&mut names, target)?;
+    Ok(names)
+}
+
+/// A virtual router, unless it is the default one.
+fn router_names(alloc: Global, vrf: Vrf) -> Result<Vec<Key>, OutOfMemory>
+    ensures { IfOk result (λ names. names.items ≡ router_names vrf) }
+{
+    match vrf {
+        Vrf::Default => Ok(Vec::new(alloc)),
+        Vrf::Named(name) => Ok(vec![in alloc; Key::Vrf(name)]?),
     }
 }
 
-/// The neighbours that are hops.
-fn hop_names(alloc: Global, hops: &[(RowHop, u8)]) -> Result<Vec<Key>, OutOfMemory>
-    ensures { IfOk result (λ names. names.items ≡ map (λ h. Key.Neigh h.0.on h.0.ip) hops.now) }
+/// Pushes the interface of a route, or the neighbours that are its hops.
+fn push_route_names(names: &mut Vec<Key>, target: &RouteRow) -> Result<(), OutOfMemory>
+    ensures { OnOk result (names.new.items ≡ names.old.items ++ route_names target.now) }
 {
-    let mut names = Vec::with_capacity(alloc, hops.len())?;
+    match target {
+        RouteRow::Drop => Ok(()),
+        RouteRow::Direct(on) => Ok(names.push(Key::Intf(*on))?),
+        RouteRow::Hops(hops) => push_hop_names(names, hops.items()),
+    }
+}
+
+/// Pushes the neighbours that are hops.
+fn push_hop_names(names: &mut Vec<Key>, hops: &[(RowHop, u8)]) -> Result<(), OutOfMemory>
+    ensures { OnOk result (names.new.items ≡ names.old.items ++ map (λ h. Key.Neigh h.0.on h.0.ip) hops.now) }
+{
+    names.reserve(hops.len())?;
     for (hop, _) in hops {
         names.push(Key::Neigh(hop.on, hop.ip))?;
     }
-    Ok(names)
+    Ok(())
 }

@@ -35,6 +35,8 @@ pub enum Row {
     Port(PortRow),
     /// A VLAN's.
     Vlan,
+    /// A virtual router's.
+    Vrf,
     /// A VLAN member's.
     Member(Tagging),
     /// An interface's.
@@ -110,6 +112,7 @@ impl Row {
         Ok(match self {
             Row::Port(port) => Row::Port(port.copy()?),
             Row::Vlan => Row::Vlan,
+            Row::Vrf => Row::Vrf,
             Row::Member(tagging) => Row::Member(*tagging),
             Row::Intf => Row::Intf,
             Row::Addr => Row::Addr,

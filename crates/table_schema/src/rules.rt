@@ -25,11 +25,12 @@ pub fn read_row(
     match key {
         Key::Port(port) => read_port(alloc, plan, *port, fields),
         Key::Vlan(_) => Ok(Ok(Row::Vlan)),
+        Key::Vrf(_) => Ok(Ok(Row::Vrf)),
         Key::Member(..) => Ok(read_member(fields)),
         Key::Intf(_) => Ok(read_intf(fields)),
         Key::Addr(..) => Ok(Ok(Row::Addr)),
         Key::Neigh(..) => Ok(read_neigh(fields)),
-        Key::Route(_) => Ok(read_route(alloc, fields)?.map(Row::Route)),
+        Key::Route(..) => Ok(read_route(alloc, fields)?.map(Row::Route)),
         Key::Other(text) => Ok(read_other(text.bytes())),
     }
 }

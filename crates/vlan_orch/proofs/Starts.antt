@@ -163,10 +163,16 @@ module _ (plan : Ports) (names : Names) (room : RoomState) (used : List ℕ) (wo
 
   -- ---- the operation
 
+  -- the new row of what began fits its key
+  pub begun-fits : (k : Key) (old new : Option Row) (names' : Names) (room' : RoomState) (begun : Result (Unit {0}) Wait) (x : Unit {0}) → begun ≡ Ok x → MayStart plan names worker k old new → IsBegunBy plan names room used worker k old new begun names' room' → FitsAll plan k new
+  begun-fits k old new names' room' begun x is may told r same =
+      let none = (subst (λ a. IsBegunBy plan names room used worker k old new a names' room') is told).0 in
+      may.new_fits r same (none-missing (first_unapplied names (names_of k r)) _ (subst (λ n. wait_of plan names room used worker k old n ≡ None) same none))
+
   -- what began, with the operation
   pub started-as : (k : Key) (old new : Option Row) (builds : Bool) (s : VlanSubject) (names' : Names) (room' : RoomState) (begun : Result (Unit {0}) Wait) (x : Unit {0}) → begun ≡ Ok x → MayStart plan names worker k old new → builds ≡ is_some (to_build plan names k new) → IsVlanStart plan k old new builds s
       → IsBegunBy plan names room used worker k old new begun names' room' → IsStartedBy plan names room used worker k old new (Ok (subject_operation worker s)) names' room'
   started-as k old new builds s names' room' begun x is may lacks first told =
       let (none, names_are, places) = subst (λ a. IsBegunBy plan names room used worker k old new a names' room') is told in
-      let fits : FitsAll plan k new = λ r same. may.new_fits r same (none-missing (first_unapplied names (names_of k r)) _ (subst (λ n. wait_of plan names room used worker k old n ≡ None) same none)) in
+      let fits = begun-fits k old new names' room' begun x is may told in
       (none, first-operation plan names worker k old new builds s may.some may.old_fits fits lacks may.shared first, names_are, places)

@@ -28,14 +28,15 @@ pub(crate) fn put_things(
     match (key, row) {
         (Key::Port(port), Row::Port(row)) => put_port(plan, things, *port, row),
         (Key::Vlan(vlan), Row::Vlan) => put(things, Thing::Vlan(*vlan)),
+        (Key::Vrf(name), Row::Vrf) => put(things, Thing::VirtualRouter(*name)),
         (Key::Member(vlan, port), Row::Member(tagging)) => {
             put_member(plan, things, *vlan, *port, *tagging)
         }
         (Key::Intf(on), Row::Intf) => put_interface(plan, things, *on),
         (Key::Addr(on, ip, _), Row::Addr) => put_address(plan, things, *on, *ip),
         (Key::Neigh(on, ip), Row::Neigh(mac)) => put_neighbor(plan, things, *on, *ip, mac),
-        (Key::Route(prefix), Row::Route(target)) => {
-            put_route(alloc, plan, things, *prefix, target)
+        (Key::Route(vrf, prefix), Row::Route(target)) => {
+            put_route(alloc, plan, things, *vrf, *prefix, target)
         }
         _ => Ok(()),
     }
@@ -147,22 +148,20 @@ fn put_route(
     alloc: Global,
     plan: &PortPlan,
     things: &mut BTreeSet<Thing>,
+    vrf: Vrf,
     prefix: Prefix,
     target: &RouteRow,
 ) -> Result<(), OutOfMemory>
-    ensures { OnOk result (things.new.keys ≡ with_things things.old.keys (route_things plan.now prefix target.now)) }
+    ensures { OnOk result (things.new.keys ≡ with_things things.old.keys (route_things plan.now vrf prefix target.now)) }
 {
     match target {
-        RouteRow::Drop => put(things, Thing::Route(Vrf::Default, prefix, Goal::Drop)),
+        RouteRow::Drop => put(things, Thing::Route(vrf, prefix, Goal::Drop)),
         RouteRow::Direct(on) => match base_of(plan, *on) {
-            Some(base) => put(
-                things,
-                Thing::Route(Vrf::Default, prefix, Goal::Direct(base)),
-            ),
+            Some(base) => put(things, Thing::Route(vrf, prefix, Goal::Direct(base))),
             None => Ok(()),
         },
         RouteRow::Hops(hops) => match hops_of(alloc, plan, hops.items())? {
-            Some(hops) => put_route_to(things, prefix, &hops),
+            Some(hops) => put_route_to(things, vrf, prefix, &hops),
             None => Ok(()),
         },
     }
@@ -171,20 +170,18 @@ fn put_route(
 /// Puts a route to one hop, or to a group of several with its members.
 fn put_route_to(
     things: &mut BTreeSet<Thing>,
+    vrf: Vrf,
     prefix: Prefix,
     hops: &Hops,
 ) -> Result<(), OutOfMemory>
-    ensures { OnOk result (things.new.keys ≡ with_things things.old.keys (route_to prefix hops.now)) }
+    ensures { OnOk result (things.new.keys ≡ with_things things.old.keys (route_to vrf prefix hops.now)) }
 {
     match hops.items() {
         [] => Ok(()),
-        [only] => put(
-            things,
-            Thing::Route(Vrf::Default, prefix, Goal::Via(only.hop)),
-        ),
+        [only] => put(things, Thing::Route(vrf, prefix, Goal::Via(only.hop))),
         members => {
             let goal = Goal::Group(hops.copy()?);
-            put(things, Thing::Route(Vrf::Default, prefix, goal))?;
+            put(things, Thing::Route(vrf, prefix, goal))?;
             put(things, Thing::Group(hops.copy()?))?;
             put_members(things, hops, members)
         }

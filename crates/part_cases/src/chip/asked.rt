@@ -1,15 +1,14 @@
 // A chip, and what it is asked.
 use crate::chip::call::{answer, call, list_answer, object};
-use crate::chip::way::is_way;
+use crate::chip::way::other_way;
 use crate::chips::put_away;
-use crate::words::{ip, kind, number, vrf_name};
-use anyhow::{Context, Result, bail};
+use crate::words::{kind, number, with_room};
+use anyhow::{Result, bail};
 use sai_chip::{Fail, SimChip};
 use sai_types::{Caps, Chip, KINDS, Object, Rid};
 use std::alloc::Global;
 use std::fmt::Debug;
 use std::mem::replace;
-use swss_types::Vrf;
 
 /// A chip in the middle of a case.
 #[derive(Drop)]
@@ -48,7 +47,7 @@ impl Asked {
     pub fn prepare(&mut self, alloc: Global, words: &[&str]) -> Result<bool> {
         match words {
             ["room", most] => self.room = Caps([number(most)?; KINDS]),
-            ["room", name, most] => self.room = with_room(self.room, name, number(most)?)?,
+            ["room", name, most] => self.room = with_room(self.room, name, most)?,
             ["fail", at, when] => self.fails.push(Fail {
                 at: number(at)?,
                 after: *when == "after",
@@ -80,10 +79,7 @@ impl Asked {
             ["listed", "all"] => self.expect_listed(alloc, None),
             ["listed", words @ ..] => self.expect_listed(alloc, Some(&object(alloc, words)?)),
             ["effect", at] => unless_equal(alloc, &self.has_effect(number(at)?), &true),
-            ["goes", address, "in", name, way @ ..] => {
-                self.find_way(alloc, Vrf::Named(vrf_name(name)?), address, way)
-            }
-            ["goes", address, way @ ..] => self.find_way(alloc, Vrf::Default, address, way),
+            ["goes", words @ ..] => other_way(alloc, &self.chip, words),
             ["no", "effect", at] => unless_equal(alloc, &self.has_effect(number(at)?), &false),
             [what @ .., wanted] => unless_equal(alloc, &self.count(what)?, &number(wanted)?),
             [] => bail!("a line of a case"),
@@ -107,21 +103,6 @@ impl Asked {
         let found = self.listed.get(self.named);
         self.named = self.named.saturating_add(1);
         unless_equal(alloc, &found, &wanted)
-    }
-
-    /// Where packets to an address in a router go, where it is not as the words say.
-    fn find_way(
-        &self,
-        alloc: Global,
-        vrf: Vrf,
-        address: &str,
-        wanted: &[&str],
-    ) -> Result<Option<String>> {
-        let found = self.chip.forward(alloc, vrf, ip(address)?)?;
-        if is_way(&found, wanted)? {
-            return Ok(None);
-        }
-        Ok(Some(format!(in alloc; "{found:?}")?))
     }
 
     /// Whether there is an effect of this number.
@@ -151,11 +132,4 @@ fn unless_equal<T: Debug + PartialEq>(
         return Ok(None);
     }
     Ok(Some(format!(in alloc; "{found:?}")?))
-}
-
-/// The same room but for a kind.
-fn with_room(room: Caps, name: &str, most: u64) -> Result<Caps> {
-    let mut room = room.0;
-    room[kind(name)?.index()] = most;
-    Ok(Caps(room))
 }

@@ -1,5 +1,5 @@
 // What is reported of a chip and of rows, round by round.
-use crate::words::{fields, ip, key, kind, number, short};
+use crate::words::{fields, ip, key, number, typed_key, wait};
 use anyhow::{Context, Result, bail};
 use row_store::Rows;
 use sai_chip::{Replay, SimChip};
@@ -88,7 +88,7 @@ impl Reporter {
     /// Lets a key wait at the next settling or apply.
     fn put_wait(&mut self, alloc: Global, name: &str, why: &[&str]) -> Result<()> {
         let wait = wait(alloc, why)?;
-        self.waits.push((key(alloc, name)?, wait, None))?;
+        self.waits.push((typed_key(alloc, name)?, wait, None))?;
         Ok(())
     }
 
@@ -163,17 +163,6 @@ fn write_of(alloc: Global, name: &str, set: &[&str]) -> Result<Write> {
     }
     let fields = fields(alloc, set)?;
     Ok(Write::Set(key(alloc, name)?, fields))
-}
-
-/// Why a key waits.
-fn wait(alloc: Global, why: &[&str]) -> Result<Wait> {
-    match why {
-        ["missing", name] => Ok(Wait::Missing(key(alloc, name)?)),
-        ["held", name] => Ok(Wait::Held(key(alloc, name)?)),
-        ["no-room", name] => Ok(Wait::NoRoom(kind(name)?)),
-        ["busy", worker] => Ok(Wait::Busy(short(worker)?)),
-        _ => bail!("a reason"),
-    }
 }
 
 /// How a view is applied.

@@ -1,12 +1,41 @@
 // Where packets go, in words.
-use crate::words::ip;
-use anyhow::{Context, Result};
-use sai_chip::Forward;
+use crate::words::{ip, vrf_name};
+use anyhow::{Context, Result, bail};
+use sai_chip::{Forward, SimChip};
 use sai_types::{Base, WHop};
-use swss_types::Mac;
+use std::alloc::Global;
+use swss_types::{Mac, Vrf};
+
+/// Where packets of a chip go, where it is not as the words say: an address, `in` and a router's name where it is in a named
+/// router, and a way.
+pub fn other_way(alloc: Global, chip: &SimChip, words: &[&str]) -> Result<Option<String>> {
+    match words {
+        [address, "in", name, way @ ..] => {
+            let vrf = Vrf::Named(vrf_name(name)?);
+            other_way_in(alloc, chip, vrf, address, way)
+        }
+        [address, way @ ..] => other_way_in(alloc, chip, Vrf::Default, address, way),
+        [] => bail!("an address"),
+    }
+}
+
+/// Where packets to an address in a router go, where it is not as the words say.
+fn other_way_in(
+    alloc: Global,
+    chip: &SimChip,
+    vrf: Vrf,
+    address: &str,
+    wanted: &[&str],
+) -> Result<Option<String>> {
+    let found = chip.forward(alloc, vrf, ip(address)?)?;
+    if is_way(&found, wanted)? {
+        return Ok(None);
+    }
+    Ok(Some(format!(in alloc; "{found:?}")?))
+}
 
 /// Whether packets go as these words say.
-pub fn is_way(found: &Forward, wanted: &[&str]) -> Result<bool> {
+fn is_way(found: &Forward, wanted: &[&str]) -> Result<bool> {
     match found {
         Forward::Cpu => Ok(matches!(wanted, ["cpu"])),
         Forward::Drop => Ok(matches!(wanted, ["drop"])),

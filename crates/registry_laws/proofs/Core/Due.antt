@@ -17,7 +17,6 @@ use Rattle.row_layout.specs.Shared.{shared_things}
 use Rattle.switch_machine.specs.Changes.{IsCall}
 use Rattle.switch_machine.specs.Events.{IsDueCall, SwitchState}
 use Rattle.switch_machine.specs.Flights.{Machine}
-use Rattle.switch_machine.proofs.Standing.{stands-default}
 use Rattle.ref_counts.specs.Registry.{Names}
 use Rattle.ref_counts.specs.Room.{RoomState}
 use Rattle.orch_flight.specs.Calling.{HasVid, IsCallFor, things_held}
@@ -65,7 +64,7 @@ module _ (plan : Ports) (is : IsPlan plan) (capacities : List ℕ) (names : Name
         record { change = change; rest = rest; due = due; told = told; of = subst (λ d. IsCall (listed m.stands) d call) y.2 y.0.of }
 
     next_tied : (v : Vid) → IsIn v (ids_of_call c) → IsTiedBy rid v
-    next_tied v h = call_tied rid (listed m.stands) s.objects stands.safe.laid (λ i u h. stands-default plan m stands.safe.sound u (i, h)) has (tied_by has one) things next.change c call next.told next.of v h
+    next_tied v h = call_tied rid (listed m.stands) s.objects stands.safe.laid has (tied_by has one) things next.change c call next.told next.of v h
 
   -- ---- of a row
 

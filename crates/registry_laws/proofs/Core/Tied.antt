@@ -20,7 +20,7 @@ use Rattle.sai_types.specs.declared.thing.Thing.{Thing}
 use Rattle.sai_types.specs.declared.thing.Thing.TheVariants as thing
 use Rattle.sai_types.specs.Alike.{IsIn}
 use Rattle.sai_types.specs.Names as name
-use Rattle.sai_types.specs.Names.{ThingName, base_name, name_kind, name_of, thing_router}
+use Rattle.sai_types.specs.Names.{ThingName, base_name, name_kind, name_of}
 use Rattle.sai_types.specs.Objects.{Objects}
 use Rattle.sai_types.proofs.Membership.{in-either}
 use Rattle.chip_layout.specs.Bodies.{IsAt, IsBody, IsChange, body_with, first_name, goal_name, is_numbered, on_with, router_name, second_name, to_with, vr_with}
@@ -31,7 +31,7 @@ use Rattle.row_layout.specs.Operations.{Change, Make, Set, Take}
 use Rattle.switch_machine.specs.Changes.{IsCall}
 use Rattle.orch_flight.specs.Calling.{IsCallFor, IsEnteredBy, IsEntryOf, entry_by}
 use Rattle.registry_laws.proofs.Listing.{not_some}
-use Rattle.registry_laws.proofs.Identifier.Telling.{named-default, neighbor_entered, neighbor_first, router_in}
+use Rattle.registry_laws.proofs.Identifier.Telling.{neighbor_entered, neighbor_first, router_entered, router_in, router_second}
 use Rattle.registry_laws.specs.Calls.{IsTiedBy, ids_of_attr, ids_of_base, ids_of_body, ids_of_call, ids_of_entry, ids_of_router, ids_of_target}
 
 module _ (rid : Vid → Option Rid) where
@@ -79,17 +79,13 @@ module _ (rid : Vid → Option Rid) where
   body_tied (thing.GroupMember hops hop) v u a b z h = two_in v u (a (name.Group hops) refl) (b (name.NextHop hop.hop) refl) z h
   body_tied (thing.Route w prefix g) v u a b z h = either_in (ids_of_router (vr_with w u)) (ids_of_target (to_with g v)) z (router_tied w u b z) (target_tied g v a z) h
 
-  no_router : {X : Type 0} (w : Vrf) (u z : Vid) → w ≡ vrf.Default → IsIn z (ids_of_router (vr_with w u)) → X
-  no_router vrf.Default u z is h = elim h [ ]
-  no_router (vrf.Named label) u z is h = absurd cc
+  entry_tied : (t : Thing) (v a b : Vid) → (has_number t ≡ true → IsTiedBy rid v) → ((hop : Hop) → name_of t ≡ name.Neighbor hop → IsTiedBy rid a) → TiedFor (router_name (router_in (name_of t))) b → (z : Vid) → IsIn z (ids_of_entry (entry_by v (body_with t a b))) → IsTiedBy rid z
+  entry_tied (thing.Own w ip) v a b h n r z i = router_tied w b r z i
+  entry_tied (thing.Neighbor hop mac) v a b h n r z i = one_in a (n hop refl) z i
+  entry_tied (thing.Route w prefix g) v a b h n r z i = router_tied w b r z i
+  entry_tied _ v a b h n r z i = one_in v (h refl) z i
 
-  entry_tied : (t : Thing) (v a b : Vid) → router_in (name_of t) ≡ vrf.Default → (has_number t ≡ true → IsTiedBy rid v) → ((hop : Hop) → name_of t ≡ name.Neighbor hop → IsTiedBy rid a) → (z : Vid) → IsIn z (ids_of_entry (entry_by v (body_with t a b))) → IsTiedBy rid z
-  entry_tied (thing.Own w ip) v a b is h n z i = no_router w b z is i
-  entry_tied (thing.Neighbor hop mac) v a b is h n z i = one_in a (n hop refl) z i
-  entry_tied (thing.Route w prefix g) v a b is h n z i = no_router w b z is i
-  entry_tied _ v a b is h n z i = one_in v (h refl) z i
-
-  module _ (L : Layout Rid) (objects : Objects) (laid : IsLaidOut L objects) (default : (i : Rid) (u : Thing) → L i u → thing_router u ≡ vrf.Default) (at : ThingName → Vid → Type 0) (tied : (n : ThingName) (v : Vid) (i : Rid) → is_numbered (name_kind n) ≡ true → Has L n i → at n v → IsTiedBy rid v) where
+  module _ (L : Layout Rid) (objects : Objects) (laid : IsLaidOut L objects) (at : ThingName → Vid → Type 0) (tied : (n : ThingName) (v : Vid) (i : Rid) → is_numbered (name_kind n) ≡ true → Has L n i → at n v → IsTiedBy rid v) where
     tied_at : (o : Option ThingName) (v : Vid) (i : Rid) → ((n : ThingName) → o ≡ Some n → is_numbered (name_kind n) ≡ true) → IsAt (Has L) o i → IsAt at o v → TiedFor o v
     tied_at None v i numbered there h n e = not_some n e
     tied_at (Some k) v i numbered there h n e = tied k v i (numbered k refl) there h
@@ -97,15 +93,22 @@ module _ (rid : Vid → Option Rid) where
     -- the entry of what stands
     standing_tied : (old : Thing) (e : Entry Vid) (i : Rid) (u : Thing) (d : Body Rid) → IsEntryOf at old e → L i u → name_of u ≡ name_of old → IsBody (Has L) u d → (z : Vid) → IsIn z (ids_of_entry e) → IsTiedBy rid z
     standing_tied old e i u d x there same y z h =
-        entry_tied old x.id x.of.first x.of.second (ap router_in (sym same) ∙ named-default u (default i u there))
+        entry_tied old x.id x.of.first x.of.second
         (λ numbered. tied (name_of old) x.id i numbered (u, there, same) (x.numbered numbered))
-        neighbor z (subst (λ l. IsIn z (ids_of_entry l)) (x.is ∙ ap (entry_by x.id) x.of.body_is) h)
+        neighbor (router (router_in (name_of old)) refl) z (subst (λ l. IsIn z (ids_of_entry l)) (x.is ∙ ap (entry_by x.id) x.of.body_is) h)
       where
         neighbor : (hop : Hop) → name_of old ≡ name.Neighbor hop → IsTiedBy rid x.of.first
         neighbor hop e =
             let on : Has L (name.Rif hop.on) y.first = subst (λ o. IsAt (Has L) o y.first) (neighbor_first u hop (same ∙ e)) y.first_at in
-            let told : at (name.Rif hop.on) x.of.first = subst (λ o. IsAt (λ n v. IsEnteredBy old → at n v) o x.of.first) (neighbor_first old hop e) x.of.first_at (neighbor_entered old hop e) in
+            let told : at (name.Rif hop.on) x.of.first = subst (λ o. IsAt (λ n v. IsEnteredBy old n → at n v) o x.of.first) (neighbor_first old hop e) x.of.first_at (neighbor_entered old hop e) in
             tied (name.Rif hop.on) x.of.first y.first refl on told
+
+        router : (w : Vrf) → router_in (name_of old) ≡ w → TiedFor (router_name w) x.of.second
+        router vrf.Default h n e = not_some n e
+        router (vrf.Named label) h n e =
+            let in_it : Has L (name.VirtualRouter label) y.second = subst (λ o. IsAt (Has L) o y.second) (router_second u label (ap router_in same ∙ h)) y.second_at in
+            let told : at (name.VirtualRouter label) x.of.second = subst (λ o. IsAt (λ n v. IsEnteredBy old n → at n v) o x.of.second) (router_second old label h) x.of.second_at (router_entered old label h) in
+            tied (name.VirtualRouter label) x.of.second y.second refl in_it told
 
     goal_numbered : (g : Goal) (n : ThingName) → goal_name g ≡ Some n → is_numbered (name_kind n) ≡ true
     goal_numbered goal.Drop n e = not_some n e

@@ -106,7 +106,7 @@ module _ (plan : Ports) where
   made_some : (k : Key) (t : Thing) (o : Owner) → IsOwnedBy plan (name_of t) o → (o ≡ owner.OfRow k) ⊎ IsShared o → has_number t ≡ true → IsAlone (name_of t) → made_owner k t ≡ Some o
   made_some k (thing.Port p) o of whose numbered alone = of_row k o (port_named plan (first_lane p.lanes)) key.Port whose of
   made_some k (thing.Vlan vlan) o of whose numbered alone = of_row k o (Some vlan) key.Vlan whose of
-  made_some k (thing.VirtualRouter label) o of whose numbered alone = not_some o of
+  made_some k (thing.VirtualRouter label) o of whose numbered alone = of_row k o (Some label) key.Vrf whose of
   made_some k (thing.BridgePort lane) o of whose numbered alone = of
   made_some k (thing.VlanMember vlan lane tagging) o of whose numbered alone = of_row k o (port_named plan lane) (key.Member vlan) whose of
   made_some k (thing.Rif b v) o of whose numbered alone = of_row k o (interface_on plan b) key.Intf whose of

@@ -1,13 +1,16 @@
 -- the registry has the identifiers that the change which is due next needs
-use Rattle.std.proofs.Common.{◌≡◌, ◌⊎◌, ◌∷◌, ◌∙◌, inl, inr, ℕ, true, List, [], Option, Some, is_some, option_map, refl, sym, ap, subst}
+use Rattle.std.proofs.Common.{◌≡◌, ◌⊎◌, ◌∷◌, ◌∙◌, inl, inr, ℕ, true, List, [], map, Option, Some, is_some, option_map, refl, sym, ap, subst}
 use Rattle.std.proofs.lemmas.Option.{same_Some}
+use Rattle.table_schema.specs.Names.{router_names}
 use Rattle.table_schema.specs.Plan.{IsPlan, Ports, port_named}
 use Rattle.table_schema.specs.declared.key.Key.{Key}
 use Rattle.table_schema.specs.declared.key.Key.TheVariants as key
 use Rattle.table_schema.specs.declared.row.Row.{Row}
 use Rattle.table_schema.specs.declared.row.Row.TheVariants as row
 use Rattle.swss_types.specs.declared.interface.IfName.{IfName}
+use Rattle.swss_types.specs.declared.vrf.Vrf.{Vrf}
 use Rattle.swss_types.specs.declared.vrf.Vrf.TheVariants as vrf
+use Rattle.swss_types.specs.declared.vrf.VrfName.{VrfName}
 use Rattle.swss_types.proofs.Proper.{mapped}
 use Rattle.sai_types.specs.declared.hop.Hop.{Hop}
 use Rattle.sai_types.specs.declared.weight.WHop.{WHop}
@@ -48,7 +51,7 @@ use Rattle.registry_laws.specs.Registers.{KnowsNames}
 use Rattle.registry_laws.specs.Identified.{BuildsGroups, Identified, IsUnderWay, IsVidOf}
 use Rattle.registry_laws.proofs.Identifier.Needing.{IsKnown, RowsKnown, SharedKnown, both_known, entered_by, entered_other, pointed_known, referred_known, shared_referred}
 use Rattle.registry_laws.proofs.Identifier.Owning.{IsFirst, vid_by}
-use Rattle.registry_laws.proofs.Identifier.Telling.{neighbor_first}
+use Rattle.registry_laws.proofs.Identifier.Telling.{neighbor_first, router_in, router_second}
 
 -- an identifier of what is of no group that is built is the registry's
 free_built : (plan : Ports) (names : Names) (g : GroupOperation) (n : ThingName) (v : Vid) (o : Owner) → IsFirst n → IsOwnedBy plan n o → (o ≡ owner.Group g.hops → ⊥) → HasGroupVid plan names g n v → HasVid plan names n v
@@ -80,6 +83,16 @@ module _ (plan : Ports) (is : IsPlan plan) (m : Machine) (sound : IsConsistent p
 
   pub row_built_by_none : (k : Key) → IsBuiltByNone (owner.OfRow k)
   row_built_by_none k v g at builds e = cc
+
+  -- by what a thing of this name is named beside itself stands: a neighbour's interface, and the virtual router of what is in one
+  record IsNear (n : ThingName) : Type 0 where
+    rif : (hop : Hop) → n ≡ thing_name.Neighbor hop → HasName (StandsIn m) (thing_name.Rif hop.on)
+    router : (label : VrfName) → router_in n ≡ vrf.Named label → HasName (StandsIn m) (thing_name.VirtualRouter label)
+
+  -- the router of a route that stands
+  router_known : (v : Vrf) → ((label : VrfName) → v ≡ vrf.Named label → HasName (StandsIn m) (thing_name.VirtualRouter label)) → HaveIds names (map name.Row (router_names v))
+  router_known vrf.Default there = tt
+  router_known (vrf.Named label) there = (stands_known (thing_name.VirtualRouter label) (owner.OfRow (key.Vrf label)) refl tt refl (row_built_by_none (key.Vrf label)) (there label refl), tt)
 
   module _ (w : ℕ) (f : MachineFlight) (flying : m.board.flights w ≡ Some f) where
     rows_known : (r : Row) → f.new ≡ Some r → RowsKnown plan names f.key r
@@ -115,40 +128,40 @@ module _ (plan : Ports) (is : IsPlan plan) (m : Machine) (sound : IsConsistent p
       of_row : {X : Type 0} (o : Owner) (x : Option X) (g : X → Key) → option_map (λ z. owner.OfRow (g z)) x ≡ Some o → (p : Key) × (owner.OfRow p ≡ o)
       of_row o x g h = let y = mapped (λ z. owner.OfRow (g z)) x o h in (g y.0, y.2)
 
-      entered_known : (k : Key) (n : ThingName) (o : Owner) → IsOwnedBy plan n o → (o ≡ owner.OfRow k) ⊎ IsShared o → ((hops : List WHop) → o ≡ owner.Group hops → ⊥) → HasName (StandsIn m) n → ((hop : Hop) → n ≡ thing_name.Neighbor hop → HasName (StandsIn m) (thing_name.Rif hop.on)) → HaveIds names (entered k n)
-      entered_known k (thing_name.Neighbor hop) o of whose alone there rif =
+      entered_known : (k : Key) (n : ThingName) (o : Owner) → IsOwnedBy plan n o → (o ≡ owner.OfRow k) ⊎ IsShared o → ((hops : List WHop) → o ≡ owner.Group hops → ⊥) → HasName (StandsIn m) n → IsNear n → HaveIds names (entered k n)
+      entered_known k (thing_name.Neighbor hop) o of whose alone there near =
           let x = mapped (λ i. owner.OfRow (key.Neigh i hop.ip)) (interface_on plan hop.on) o of in
           by x.0 x.1 x.2 whose
         where
           by : (i : IfName) → interface_on plan hop.on ≡ Some i → owner.OfRow (key.Neigh i hop.ip) ≡ o → (o ≡ owner.OfRow k) ⊎ IsShared o → HaveIds names (entered k (thing_name.Neighbor hop))
-          by i at e (inl same) = subst (λ z. HaveIds names (entered z (thing_name.Neighbor hop))) (row_keys (key.Neigh i hop.ip) k (e ∙ same)) (stands_known (thing_name.Rif hop.on) (owner.OfRow (key.Intf i)) refl tt (ap (option_map (λ j. owner.OfRow (key.Intf j))) at) (row_built_by_none (key.Intf i)) (rif hop refl), tt)
+          by i at e (inl same) = subst (λ z. HaveIds names (entered z (thing_name.Neighbor hop))) (row_keys (key.Neigh i hop.ip) k (e ∙ same)) (stands_known (thing_name.Rif hop.on) (owner.OfRow (key.Intf i)) refl tt (ap (option_map (λ j. owner.OfRow (key.Intf j))) at) (row_built_by_none (key.Intf i)) (near.rif hop refl), tt)
           by i at e (inr shared) = absurd (shared_row o (key.Neigh i hop.ip) shared (sym e))
-      entered_known k (thing_name.Port lane) o of whose alone there rif = as_is k (thing_name.Port lane) (λ hop e. cc) (row_entered k (thing_name.Port lane) o refl tt of (of_row o (port_named plan lane) key.Port of) whose there)
-      entered_known k (thing_name.Vlan vlan) o of whose alone there rif = as_is k (thing_name.Vlan vlan) (λ hop e. cc) (row_entered k (thing_name.Vlan vlan) o refl tt of (key.Vlan vlan, same_Some _ o of) whose there)
-      entered_known k (thing_name.VirtualRouter label) o of whose alone there rif = absurd cc
-      entered_known k (thing_name.BridgePort lane) o of whose alone there rif = as_is k (thing_name.BridgePort lane) (λ hop e. cc) (stands_known (thing_name.BridgePort lane) (owner.Bridge lane) refl tt refl (λ v g at builds e. cc) there, tt)
-      entered_known k (thing_name.VlanMember vlan lane) o of whose alone there rif = as_is k (thing_name.VlanMember vlan lane) (λ hop e. cc) (row_entered k (thing_name.VlanMember vlan lane) o refl tt of (of_row o (port_named plan lane) (key.Member vlan) of) whose there)
-      entered_known k (thing_name.Rif b) o of whose alone there rif = as_is k (thing_name.Rif b) (λ hop e. cc) (row_entered k (thing_name.Rif b) o refl tt of (of_row o (interface_on plan b) key.Intf of) whose there)
-      entered_known k (thing_name.NextHop hop) o of whose alone there rif = as_is k (thing_name.NextHop hop) (λ hop e. cc) (row_entered k (thing_name.NextHop hop) o refl tt of (of_row o (interface_on plan hop.on) (λ i. key.Neigh i hop.ip) of) whose there)
-      entered_known k (thing_name.Group hops) o of whose alone there rif = absurd (alone hops (sym (same_Some (owner.Group hops) o of)))
-      entered_known k (thing_name.GroupMember hops hop) o of whose alone there rif = absurd (alone hops (sym (same_Some (owner.Group hops) o of)))
-      entered_known k (thing_name.Own v ip) o of whose alone there rif = as_is k (thing_name.Own v ip) (λ hop e. cc) tt
-      entered_known k (thing_name.Route v prefix) o of whose alone there rif = as_is k (thing_name.Route v prefix) (λ hop e. cc) tt
+      entered_known k (thing_name.Port lane) o of whose alone there near = as_is k (thing_name.Port lane) (λ hop e. cc) (row_entered k (thing_name.Port lane) o refl tt of (of_row o (port_named plan lane) key.Port of) whose there)
+      entered_known k (thing_name.Vlan vlan) o of whose alone there near = as_is k (thing_name.Vlan vlan) (λ hop e. cc) (row_entered k (thing_name.Vlan vlan) o refl tt of (key.Vlan vlan, same_Some _ o of) whose there)
+      entered_known k (thing_name.VirtualRouter label) o of whose alone there near = as_is k (thing_name.VirtualRouter label) (λ hop e. cc) (row_entered k (thing_name.VirtualRouter label) o refl tt of (key.Vrf label, same_Some _ o of) whose there)
+      entered_known k (thing_name.BridgePort lane) o of whose alone there near = as_is k (thing_name.BridgePort lane) (λ hop e. cc) (stands_known (thing_name.BridgePort lane) (owner.Bridge lane) refl tt refl (λ v g at builds e. cc) there, tt)
+      entered_known k (thing_name.VlanMember vlan lane) o of whose alone there near = as_is k (thing_name.VlanMember vlan lane) (λ hop e. cc) (row_entered k (thing_name.VlanMember vlan lane) o refl tt of (of_row o (port_named plan lane) (key.Member vlan) of) whose there)
+      entered_known k (thing_name.Rif b) o of whose alone there near = as_is k (thing_name.Rif b) (λ hop e. cc) (row_entered k (thing_name.Rif b) o refl tt of (of_row o (interface_on plan b) key.Intf of) whose there)
+      entered_known k (thing_name.NextHop hop) o of whose alone there near = as_is k (thing_name.NextHop hop) (λ hop e. cc) (row_entered k (thing_name.NextHop hop) o refl tt of (of_row o (interface_on plan hop.on) (λ i. key.Neigh i hop.ip) of) whose there)
+      entered_known k (thing_name.Group hops) o of whose alone there near = absurd (alone hops (sym (same_Some (owner.Group hops) o of)))
+      entered_known k (thing_name.GroupMember hops hop) o of whose alone there near = absurd (alone hops (sym (same_Some (owner.Group hops) o of)))
+      entered_known k (thing_name.Own v ip) o of whose alone there near = as_is k (thing_name.Own v ip) (λ hop e. cc) tt
+      entered_known k (thing_name.Route v prefix) o of whose alone there near = as_is k (thing_name.Route v prefix) (λ hop e. cc) (router_known v near.router)
 
       -- what points at something else points at what the new row names or shares
       set_known : (k : Key) (r : Row) (u like : Thing) → IsIn like (own_things plan k r) → Resembles u like → RowsKnown plan names k r → SharedKnown plan names k r → HaveIds names (set_refers k (Some r) u)
-      set_known (key.Route prefix) (row.Route r) (thing.Route v p g) like own resembles rows shared =
+      set_known (key.Route v prefix) (row.Route r) (thing.Route w p g) like own resembles rows shared =
           let m = from_in (goal_of plan r) _ like own in
           by m.0 m.1 m.2 resembles.same
         where
-          by : (h : Goal) → goal_of plan r ≡ Some h → IsIn like (thing.Route vrf.Default prefix h ∷ []) → (thing.Route v p g ≡ like) ⊎ IsSamePort (thing.Route v p g) like → HaveIds names (pointed (Some (row.Route r)) g)
+          by : (h : Goal) → goal_of plan r ≡ Some h → IsIn like (thing.Route v prefix h ∷ []) → (thing.Route w p g ≡ like) ⊎ IsSamePort (thing.Route w p g) like → HaveIds names (pointed (Some (row.Route r)) g)
           by h at (inl is) (inl same) =
               let goals : h ≡ g = cc in
-              subst (λ z. HaveIds names (pointed (Some (row.Route r)) z)) goals (pointed_known plan names prefix r h at rows shared)
+              subst (λ z. HaveIds names (pointed (Some (row.Route r)) z)) goals (pointed_known plan names v prefix r h at rows shared)
           by h at (inr x) same = elim x [ ]
           by h at i (inr x) = elim x [ ]
-      set_known (key.Route prefix) (row.Route r) _ like own resembles rows shared = tt
-      set_known (key.Route prefix) r u like own resembles rows shared = elim own [ ]
+      set_known (key.Route v prefix) (row.Route r) _ like own resembles rows shared = tt
+      set_known (key.Route v prefix) r u like own resembles rows shared = elim own [ ]
       set_known k r u like own resembles rows shared = tt
 
     -- ---- the change that is due next
@@ -161,21 +174,31 @@ module _ (plan : Ports) (is : IsPlan plan) (m : Machine) (sound : IsConsistent p
           let on : Has (listed m.stands) (thing_name.Rif hop.on) b.1.first = subst (λ o. IsAt (Has (listed m.stands)) o b.1.first) (neighbor_first u hop (same ∙ e)) b.1.first_at in
           (on.0, (b.1.first, on.1), on.2)
 
+      -- and the virtual router of what is in one
+      router_there : (n : ThingName) → HasName (StandsIn m) n → (label : VrfName) → router_in n ≡ vrf.Named label → HasName (StandsIn m) (thing_name.VirtualRouter label)
+      router_there n (u, (i, h), same) label e =
+          let b = laid.stand i u h in
+          let router : Has (listed m.stands) (thing_name.VirtualRouter label) b.1.second = subst (λ o. IsAt (Has (listed m.stands)) o b.1.second) (router_second u label (ap router_in same ∙ e)) b.1.second_at in
+          (router.0, (b.1.second, router.1), router.2)
+
+      near_there : (n : ThingName) → HasName (StandsIn m) n → IsNear n
+      near_there n there = record { rif = rif_there n there; router = router_there n there }
+
       change_known : (c : Change) → Can plan f (StandsIn m) c → (IsOfGroup plan c → ⊥) → HaveIds names (ids_needed f.key f.new c)
       change_known (Make t) can alone = make_known free t can
       change_known (Set u) can alone =
           let r = own_row_in plan f.key f.new can.like can.final in
           let there : HasName (StandsIn m) (name_of u) = (can.old, can.stands, sym (settable_name can.old u can.settable)) in
           both_known names (entered f.key (name_of u)) (set_refers f.key f.new u)
-          (entered_known free f.key (name_of u) (owner.OfRow f.key) can.own (inl refl) (λ hops e. cc) there (rif_there (name_of u) there))
+          (entered_known free f.key (name_of u) (owner.OfRow f.key) can.own (inl refl) (λ hops e. cc) there (near_there (name_of u) there))
           (subst (λ z. HaveIds names (set_refers f.key z u)) (sym r.1) (set_known free f.key r.0 u can.like r.2 can.resembles (rows_known r.0 r.1) (shared_known free r.0 r.1 can.whole)))
       change_known (Take n) can alone = by can.goes
         where
           by : Goes plan f n → HaveIds names (entered f.key n)
-          by (inl (of, none)) = entered_known free f.key n (owner.OfRow f.key) of (inl refl) (λ hops e. cc) can.there (rif_there n can.there)
+          by (inl (of, none)) = entered_known free f.key n (owner.OfRow f.key) of (inl refl) (λ hops e. cc) can.there (near_there n can.there)
           by (inr (o, of, retires)) =
               let was = sound.board.left w f o flying retires in
-              entered_known free f.key n o of (inr (T.are_shared f.key was.row o was.used)) (λ hops e. alone (hops, of ∙ ap Some e)) can.there (rif_there n can.there)
+              entered_known free f.key n o of (inr (T.are_shared f.key was.row o was.used)) (λ hops e. alone (hops, of ∙ ap Some e)) can.there (near_there n can.there)
 
   -- no other operation builds what its new row shares
   free_of : (w : ℕ) (f : MachineFlight) → m.board.flights w ≡ Some f → KnowsNames plan names m → BuildsGroups names flown → ((g : GroupOperation) → IsUnderWay flown w g → g.builds ≡ true → ⊥) → (o : Owner) → IsIn o (uses_of plan f.key f.new) → IsBuiltByNone o

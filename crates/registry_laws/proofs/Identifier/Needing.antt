@@ -4,9 +4,10 @@ use Rattle.std.specs.Prelude.{IsSome}
 use Rattle.swss_types.specs.declared.address.Prefix as key_prefix
 use Rattle.swss_types.specs.declared.interface.IfName.{IfName}
 use Rattle.swss_types.specs.declared.interface.IfName.TheVariants as on
+use Rattle.swss_types.specs.declared.vrf.Vrf.{Vrf}
 use Rattle.swss_types.specs.declared.vrf.Vrf.TheVariants as vrf
 use Rattle.swss_types.proofs.Proper.{mapped}
-use Rattle.table_schema.specs.Names.{base_names, names_of}
+use Rattle.table_schema.specs.Names.{base_names, names_of, route_names, router_names}
 use Rattle.table_schema.specs.Plan.{Ports}
 use Rattle.table_schema.specs.declared.key.Key.{Key}
 use Rattle.table_schema.specs.declared.key.Key.TheVariants as key
@@ -28,7 +29,7 @@ use Rattle.sai_types.specs.Hop.{put_hop}
 use Rattle.sai_types.specs.Names as thing_name
 use Rattle.sai_types.specs.Names.{ThingName, name_kind, name_of}
 use Rattle.sai_types.proofs.Things.{both_mapped}
-use Rattle.sai_types.proofs.Membership.{all-in}
+use Rattle.sai_types.proofs.Membership.{all-in, in-right}
 use Rattle.switch_model.specs.Things.{base_of, hop_of, hops_of, lane_of, whop_of}
 use Rattle.chip_layout.specs.Bodies.{is_numbered}
 use Rattle.row_layout.specs.Rows as owner
@@ -94,8 +95,12 @@ module _ (plan : Ports) (names : Names) where
   rif_known : (k : Key) (r : Row) (i : IfName) (b : Base) → base_of plan i ≡ Some b → IsIn (key.Intf i) (names_of k r) → RowsKnown plan names k r → HaveIds names (name.Row (key.Intf i) ∷ [])
   rif_known k r i b at h rows = (rows (key.Intf i) (thing_name.Rif b) h (in_from (base_of plan i) (λ c. thing_name.Rif c ∷ []) b (thing_name.Rif b) at (inl refl)) refl tt, tt)
 
-  hops_known : (prefix : key_prefix.Prefix) (hops : List (RowHop × ℕ)) (g : Goal) → goal_to (hops_of plan hops) ≡ Some g → RowsKnown plan names (key.Route prefix) (row.Route (route.Hops hops)) → HaveIds names (map (λ h. name.Row (key.Neigh h.0.on h.0.ip)) hops)
-  hops_known prefix hops g at rows = all-in (IsKnown names) (map (λ (h : RowHop × ℕ). name.Row (key.Neigh h.0.on h.0.ip)) hops) (λ n i. by n (map_in (λ (h : RowHop × ℕ). name.Row (key.Neigh h.0.on h.0.ip)) n hops i))
+  -- a row that a route's row names, be it in whatever router
+  named_by : (v : Vrf) (prefix : key_prefix.Prefix) (r : RouteRow) (k : Key) → IsIn k (route_names r) → IsIn k (names_of (key.Route v prefix) (row.Route r))
+  named_by v prefix r k h = in-right k (router_names v) (route_names r) h
+
+  hops_known : (v : Vrf) (prefix : key_prefix.Prefix) (hops : List (RowHop × ℕ)) (g : Goal) → goal_to (hops_of plan hops) ≡ Some g → RowsKnown plan names (key.Route v prefix) (row.Route (route.Hops hops)) → HaveIds names (map (λ h. name.Row (key.Neigh h.0.on h.0.ip)) hops)
+  hops_known v prefix hops g at rows = all-in (IsKnown names) (map (λ (h : RowHop × ℕ). name.Row (key.Neigh h.0.on h.0.ip)) hops) (λ n i. by n (map_in (λ (h : RowHop × ℕ). name.Row (key.Neigh h.0.on h.0.ip)) n hops i))
     where
       group : (group : List WHop) × (hops_of plan hops ≡ Some group)
       group = some_hops (hops_of plan hops) g at
@@ -105,21 +110,27 @@ module _ (plan : Ports) (names : Names) where
           let b = hops_based plan hops group.0 h group.1 i in
           let ip = h.0.ip in
           let hop : Hop = record { on = b.0; ip = ip } in
-          subst (IsKnown names) (sym same) (rows (key.Neigh h.0.on ip) (thing_name.NextHop hop) (in_map (λ (z : RowHop × ℕ). key.Neigh z.0.on z.0.ip) h hops i) (in_from (base_of plan h.0.on) (λ c. thing_name.Neighbor (record { on = c; ip = ip }) ∷ thing_name.NextHop (record { on = c; ip = ip }) ∷ []) b.0 (thing_name.NextHop hop) b.1 (inr (inl refl))) refl tt)
+          subst (IsKnown names) (sym same) (rows (key.Neigh h.0.on ip) (thing_name.NextHop hop) (named_by v prefix (route.Hops hops) (key.Neigh h.0.on ip) (in_map (λ (z : RowHop × ℕ). key.Neigh z.0.on z.0.ip) h hops i)) (in_from (base_of plan h.0.on) (λ c. thing_name.Neighbor (record { on = c; ip = ip }) ∷ thing_name.NextHop (record { on = c; ip = ip }) ∷ []) b.0 (thing_name.NextHop hop) b.1 (inr (inl refl))) refl tt)
+
+  -- the router that a route is in
+  router_known : (v : Vrf) (prefix : key_prefix.Prefix) (r : RouteRow) → RowsKnown plan names (key.Route v prefix) (row.Route r) → HaveIds names (map name.Row (router_names v))
+  router_known vrf.Default prefix r rows = tt
+  router_known (vrf.Named label) prefix r rows = (rows (key.Vrf label) (thing_name.VirtualRouter label) (inl refl) (inl refl) refl tt, tt)
 
   -- what a route's row points at
-  pub pointed_known : (prefix : key_prefix.Prefix) (r : RouteRow) (g : Goal) → goal_of plan r ≡ Some g → RowsKnown plan names (key.Route prefix) (row.Route r) → SharedKnown plan names (key.Route prefix) (row.Route r) → HaveIds names (pointed (Some (row.Route r)) g)
-  pointed_known prefix route.Drop g at rows shared = tt
-  pointed_known prefix (route.Direct i) g at rows shared =
+  pub pointed_known : (v : Vrf) (prefix : key_prefix.Prefix) (r : RouteRow) (g : Goal) → goal_of plan r ≡ Some g → RowsKnown plan names (key.Route v prefix) (row.Route r) → SharedKnown plan names (key.Route v prefix) (row.Route r) → HaveIds names (pointed (Some (row.Route r)) g)
+  pointed_known v prefix route.Drop g at rows shared = tt
+  pointed_known v prefix (route.Direct i) g at rows shared =
       let m = mapped goal.Direct (base_of plan i) g at in
-      rif_known (key.Route prefix) (row.Route (route.Direct i)) i m.0 m.1 (inl refl) rows
-  pointed_known prefix (route.Hops hops) (goal.Group group) at rows shared = (shared (owner.Group group) (thing.Group group) (use_is (hops_of plan hops) group at) (inl refl) refl tt, tt)
-  pointed_known prefix (route.Hops hops) g at rows shared = hops_known prefix hops g at rows
+      rif_known (key.Route v prefix) (row.Route (route.Direct i)) i m.0 m.1 (named_by v prefix (route.Direct i) (key.Intf i) (inl refl)) rows
+  pointed_known v prefix (route.Hops hops) (goal.Group group) at rows shared = (shared (owner.Group group) (thing.Group group) (use_is (hops_of plan hops) group at) (inl refl) refl tt, tt)
+  pointed_known v prefix (route.Hops hops) g at rows shared = hops_known v prefix hops g at rows
 
   -- what a thing of the row refers to
   pub referred_known : (k : Key) (r : Row) (t : Thing) → Fits plan k r → IsIn t (own_things plan k r) → RowsKnown plan names k r → SharedKnown plan names k r → HaveIds names (referred k (Some r) t)
   referred_known (key.Port p) (row.Port r) t fit h rows shared = tt
   referred_known (key.Vlan v) row.Vlan t fit h rows shared = tt
+  referred_known (key.Vrf label) row.Vrf t fit h rows shared = tt
   referred_known (key.Member v p) (row.Member tagging) t fit h rows shared =
       let m = from_in (lane_of plan p) _ t h in
       only (λ z. HaveIds names (referred (key.Member v p) (Some (row.Member tagging)) z)) t (thing.VlanMember v m.0 tagging) (
@@ -133,9 +144,10 @@ module _ (plan : Ports) (names : Names) where
       let m = from_in (base_of plan i) _ t h in
       let on = rif_known (key.Neigh i ip) (row.Neigh mac) i m.0 m.1 (inl refl) rows in
       two (λ z. HaveIds names (referred (key.Neigh i ip) (Some (row.Neigh mac)) z)) t (thing.Neighbor (record { on = m.0; ip = ip }) mac) (thing.NextHop (record { on = m.0; ip = ip })) on on m.2
-  referred_known (key.Route prefix) (row.Route r) t fit h rows shared =
+  referred_known (key.Route v prefix) (row.Route r) t fit h rows shared =
       let m = from_in (goal_of plan r) _ t h in
-      only (λ z. HaveIds names (referred (key.Route prefix) (Some (row.Route r)) z)) t (thing.Route vrf.Default prefix m.0) (pointed_known prefix r m.0 m.1 rows shared) m.2
+      let pointed_at = pointed_known v prefix r m.0 m.1 rows shared in
+      only (λ z. HaveIds names (referred (key.Route v prefix) (Some (row.Route r)) z)) t (thing.Route v prefix m.0) (both_known names (map name.Row (router_names v)) (pointed (Some (row.Route r)) m.0) (router_known v prefix r rows) pointed_at) m.2
   referred_known k r t fit h rows shared = elim h [ ]
 
   -- and a thing that it shares
@@ -147,15 +159,15 @@ module _ (plan : Ports) (names : Names) where
         tt,
       ) y) m.2 in_it
   shared_referred (key.Addr i ip len) row.Addr o t h in_it fit rows = tt
-  shared_referred (key.Route prefix) (row.Route (route.Hops hops)) o t h in_it fit rows =
+  shared_referred (key.Route v prefix) (row.Route (route.Hops hops)) o t h in_it fit rows =
       let x = group_use o (hops_of plan hops) h in
       of_group x.0 (subst (λ o. IsIn t (shared_things o)) x.2 in_it)
     where
-      of_group : (group : List WHop) → IsIn t (shared_things (owner.Group group)) → HaveIds names (referred (key.Route prefix) (Some (row.Route (route.Hops hops))) t)
-      of_group group (inl e) = subst (λ z. HaveIds names (referred (key.Route prefix) (Some (row.Route (route.Hops hops))) z)) (sym e) tt
-      of_group group (inr y) = let m = member_of group group t y in subst (λ z. HaveIds names (referred (key.Route prefix) (Some (row.Route (route.Hops hops))) z)) (sym m.2) tt
-  shared_referred (key.Route prefix) (row.Route route.Drop) o t h in_it fit rows = elim h [ ]
-  shared_referred (key.Route prefix) (row.Route (route.Direct i)) o t h in_it fit rows = elim h [ ]
+      of_group : (group : List WHop) → IsIn t (shared_things (owner.Group group)) → HaveIds names (referred (key.Route v prefix) (Some (row.Route (route.Hops hops))) t)
+      of_group group (inl e) = subst (λ z. HaveIds names (referred (key.Route v prefix) (Some (row.Route (route.Hops hops))) z)) (sym e) tt
+      of_group group (inr y) = let m = member_of group group t y in subst (λ z. HaveIds names (referred (key.Route v prefix) (Some (row.Route (route.Hops hops))) z)) (sym m.2) tt
+  shared_referred (key.Route v prefix) (row.Route route.Drop) o t h in_it fit rows = elim h [ ]
+  shared_referred (key.Route v prefix) (row.Route (route.Direct i)) o t h in_it fit rows = elim h [ ]
   shared_referred k r o t h in_it fit rows = elim h [ ]
 
 -- ---- by what a thing is named itself
@@ -164,7 +176,7 @@ module _ (plan : Ports) (names : Names) where
 abbrev pub entered_by : Key → ThingName → List registry_name.Name
 entered_by k (thing_name.BridgePort lane) = name.BridgePort lane ∷ []
 entered_by k (thing_name.Own v ip) = []
-entered_by k (thing_name.Route v prefix) = []
+entered_by k (thing_name.Route v prefix) = map name.Row (router_names v)
 entered_by k n = name.Row k ∷ []
 
 pub entered_other : (k : Key) (n : ThingName) → ((hop : Hop) → n ≡ thing_name.Neighbor hop → ⊥) → entered k n ≡ entered_by k n

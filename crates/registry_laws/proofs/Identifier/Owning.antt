@@ -41,7 +41,7 @@ module _ (plan : Ports) where
     pub vid_by : (n : ThingName) (o : Owner) → is_numbered (name_kind n) ≡ true → IsFirst n → IsOwnedBy plan n o → vid_at plan names n ≡ first_of (ids_of names (name_for o))
     vid_by (thing_name.Port lane) o numbered first h = row_by (port_named plan lane) key.Port o h
     vid_by (thing_name.Vlan vlan) o numbered first h = first_by _ o h
-    vid_by (thing_name.VirtualRouter label) o numbered first h = not_some o h
+    vid_by (thing_name.VirtualRouter label) o numbered first h = first_by _ o h
     vid_by (thing_name.BridgePort lane) o numbered first h = first_by _ o h
     vid_by (thing_name.VlanMember vlan lane) o numbered first h = row_by (port_named plan lane) (key.Member vlan) o h
     vid_by (thing_name.Rif b) o numbered first h = row_by (interface_on plan b) key.Intf o h
@@ -59,6 +59,7 @@ module _ (plan : Ports) where
     pub vid_same : (n : ThingName) → ((o : Owner) → IsOwnedBy plan n o → ids_of names' (name_for o) ≡ ids_of names (name_for o)) → vid_at plan names' n ≡ vid_at plan names n
     vid_same (thing_name.Port lane) same = row_same (port_named plan lane) key.Port same
     vid_same (thing_name.Vlan vlan) same = ap first_of (same (owner.OfRow (key.Vlan vlan)) refl)
+    vid_same (thing_name.VirtualRouter label) same = ap first_of (same (owner.OfRow (key.Vrf label)) refl)
     vid_same (thing_name.BridgePort lane) same = ap first_of (same (owner.Bridge lane) refl)
     vid_same (thing_name.VlanMember vlan lane) same = row_same (port_named plan lane) (key.Member vlan) same
     vid_same (thing_name.Rif b) same = row_same (interface_on plan b) key.Intf same

@@ -55,6 +55,7 @@ lane_named (q ∷ qs) rising lane p h = lane_named_step (slice_index q.1 0 == la
 abbrev row_name : Ports → Key → Option ThingName
 row_name plan (key.Port p) = option_map thing_name.Port (lane_of plan p)
 row_name plan (key.Vlan vlan) = Some (thing_name.Vlan vlan)
+row_name plan (key.Vrf label) = Some (thing_name.VirtualRouter label)
 row_name plan (key.Member vlan p) = option_map (thing_name.VlanMember vlan) (lane_of plan p)
 row_name plan (key.Intf i) = option_map thing_name.Rif (base_of plan i)
 row_name plan (key.Neigh i ip) = option_map (λ b. thing_name.NextHop (record { on = b; ip = ip })) (base_of plan i)
@@ -78,7 +79,7 @@ module _ (plan : Ports) (is : IsPlan plan) where
       let m = mapped (λ p. owner.OfRow (key.Port p)) (port_named plan lane) o h in
       ap (owner_name plan) (sym m.2) ∙ ap (option_map thing_name.Port) (lane_named plan is.rising lane m.0 m.1)
   named_by (thing_name.Vlan vlan) o numbered alone h = ap (owner_name plan) (sym (same_Some (owner.OfRow (key.Vlan vlan)) o h))
-  named_by (thing_name.VirtualRouter label) o numbered alone h = not_some o h
+  named_by (thing_name.VirtualRouter label) o numbered alone h = ap (owner_name plan) (sym (same_Some (owner.OfRow (key.Vrf label)) o h))
   named_by (thing_name.BridgePort lane) o numbered alone h = ap (owner_name plan) (sym (same_Some (owner.Bridge lane) o h))
   named_by (thing_name.VlanMember vlan lane) o numbered alone h =
       let m = mapped (λ p. owner.OfRow (key.Member vlan p)) (port_named plan lane) o h in

@@ -2,6 +2,7 @@
 use Rattle.std.proofs.Common.{◌≡◌, ◌⊎◌, ◌∙◌, inl, inr, true, List, Option, None, Some, option_map, refl, sym, ap, subst}
 use Rattle.swss_types.specs.declared.vrf.Vrf.{Vrf}
 use Rattle.swss_types.specs.declared.vrf.Vrf.TheVariants as vrf
+use Rattle.swss_types.specs.declared.vrf.VrfName.{VrfName}
 use Rattle.sai_types.specs.declared.ids.Rid.{Rid}
 use Rattle.sai_types.specs.declared.ids.Vid.{Vid}
 use Rattle.sai_types.specs.declared.hop.Hop.{Hop}
@@ -19,9 +20,9 @@ use Rattle.sai_types.specs.declared.thing.Thing.TheVariants as thing
 use Rattle.sai_types.specs.After.{entry_of}
 use Rattle.sai_types.specs.Alike.{IsIn}
 use Rattle.sai_types.specs.Names as name
-use Rattle.sai_types.specs.Names.{ThingName, name_kind, name_of, thing_router}
+use Rattle.sai_types.specs.Names.{ThingName, name_kind, name_of}
 use Rattle.sai_types.specs.Objects.{Objects}
-use Rattle.chip_layout.specs.Bodies.{IsAt, IsBody, IsChange, body_with, first_name, goal_name, is_numbered, second_name, to_with, vr_with}
+use Rattle.chip_layout.specs.Bodies.{IsAt, IsBody, IsChange, body_with, first_name, goal_name, is_numbered, router_name, second_name, to_with, vr_with}
 use Rattle.chip_layout.specs.Layout.{Has, IsLaidOut, Layout, has_number}
 use Rattle.chip_layout.specs.Renamed.{attr_renamed, body_renamed, call_renamed, entry_renamed, to_renamed}
 use Rattle.chip_layout.proofs.Bodies.{first-numbered, second-numbered}
@@ -42,7 +43,7 @@ neighbor_first (thing.Neighbor hop mac) other h = let same : hop ≡ other = cc 
 neighbor_first _ other h = absurd cc
 
 -- and its entry has the identifier of that
-pub neighbor_entered : (t : Thing) (hop : Hop) → name_of t ≡ name.Neighbor hop → IsEnteredBy t
+pub neighbor_entered : (t : Thing) (hop : Hop) → name_of t ≡ name.Neighbor hop → IsEnteredBy t (name.Rif hop.on)
 neighbor_entered (thing.Neighbor hop mac) other h = tt
 neighbor_entered _ other h = absurd cc
 
@@ -68,15 +69,21 @@ router_in (name.Own v ip) = v
 router_in (name.Route v prefix) = v
 router_in _ = vrf.Default
 
-pub named-default : (t : Thing) → thing_router t ≡ vrf.Default → router_in (name_of t) ≡ vrf.Default
-named-default (thing.Own v ip) h = h
-named-default (thing.Route v prefix goal) h = h
-named-default _ h = refl
+-- it is the second that the thing refers to
+pub router_second : (t : Thing) (label : VrfName) → router_in (name_of t) ≡ vrf.Named label → second_name t ≡ Some (name.VirtualRouter label)
+router_second (thing.Own v ip) label h = ap router_name h
+router_second (thing.Route v prefix goal) label h = ap router_name h
+router_second _ label h = absurd cc
+
+-- and the entry has the identifier of that
+pub router_entered : (t : Thing) (label : VrfName) → router_in (name_of t) ≡ vrf.Named label → IsEnteredBy t (name.VirtualRouter label)
+router_entered (thing.Own v ip) label h = tt
+router_entered (thing.Route v prefix goal) label h = tt
+router_entered _ label h = absurd cc
 
 -- ---- the call
 
--- where all that stands is in the default router
-module _ (L : Layout Rid) (objects : Objects) (laid : IsLaidOut L objects) (default : (i : Rid) (u : Thing) → L i u → thing_router u ≡ vrf.Default) (at : ThingName → Vid → Type 0) (f : Vid → Rid) (tied : (n : ThingName) (v : Vid) (i : Rid) → is_numbered (name_kind n) ≡ true → Has L n i → at n v → f v ≡ i) where
+module _ (L : Layout Rid) (objects : Objects) (laid : IsLaidOut L objects) (at : ThingName → Vid → Type 0) (f : Vid → Rid) (tied : (n : ThingName) (v : Vid) (i : Rid) → is_numbered (name_kind n) ≡ true → Has L n i → at n v → f v ≡ i) where
   -- what has an identifier on the chip has the one to which its own is tied
   tied_at : (o : Option ThingName) (v : Vid) (i : Rid) → ((n : ThingName) → o ≡ Some n → is_numbered (name_kind n) ≡ true) → IsAt (Has L) o i → IsAt at o v → IsAt (Has L) o (f v)
   tied_at None v i numbered there h = tt
@@ -98,21 +105,21 @@ module _ (L : Layout Rid) (objects : Objects) (laid : IsLaidOut L objects) (defa
 
   -- ---- the entry of what stands
 
-  default_router : (w : Vrf) (b : Vid) → w ≡ vrf.Default → IsRouter (Has L) w (option_map f (vr_with w b))
-  default_router vrf.Default b is = tt
-  default_router (vrf.Named label) b is = absurd cc
+  router_told : (w : Vrf) (b : Vid) → IsAt (Has L) (router_name w) (f b) → IsRouter (Has L) w (option_map f (vr_with w b))
+  router_told vrf.Default b h = tt
+  router_told (vrf.Named label) b h = h
 
-  entry_with : (t : Thing) (v a b : Vid) → router_in (name_of t) ≡ vrf.Default → (has_number t ≡ true → Has L (name_of t) (f v)) → ((hop : Hop) → name_of t ≡ name.Neighbor hop → Has L (name.Rif hop.on) (f a)) → IsEntry (Has L) (name_of t) (entry_renamed f (entry_by v (body_with t a b)))
-  entry_with (thing.Own w ip) v a b is h n = (w, refl, default_router w b is)
-  entry_with (thing.Neighbor hop mac) v a b is h n = (hop.on, refl, n hop refl)
-  entry_with (thing.Route w prefix to) v a b is h n = (w, refl, default_router w b is)
-  entry_with _ v a b is h n = (refl, h refl)
+  entry_with : (t : Thing) (v a b : Vid) → (has_number t ≡ true → Has L (name_of t) (f v)) → ((hop : Hop) → name_of t ≡ name.Neighbor hop → Has L (name.Rif hop.on) (f a)) → IsAt (Has L) (router_name (router_in (name_of t))) (f b) → IsEntry (Has L) (name_of t) (entry_renamed f (entry_by v (body_with t a b)))
+  entry_with (thing.Own w ip) v a b h n r = (w, refl, router_told w b r)
+  entry_with (thing.Neighbor hop mac) v a b h n r = (hop.on, refl, n hop refl)
+  entry_with (thing.Route w prefix to) v a b h n r = (w, refl, router_told w b r)
+  entry_with _ v a b h n r = (refl, h refl)
 
   -- a thing is told by its entry, and another of its name stands
   entry_told : (old : Thing) (e : Entry Vid) (i : Rid) (u : Thing) (d : Body Rid) → IsEntryOf at old e → L i u → name_of u ≡ name_of old → IsBody (Has L) u d → entry_renamed f e ≡ entry_of i.0 d
   entry_told old e i u d x there same y =
       entry-one L objects laid (name_of old) (entry_renamed f e) (entry_of i.0 d)
-      (subst (λ z. IsEntry (Has L) (name_of old) (entry_renamed f z)) (sym (x.is ∙ ap (entry_by x.id) x.of.body_is)) (entry_with old x.id x.of.first x.of.second (ap router_in (sym same) ∙ named-default u (default i u there)) numbered neighbor))
+      (subst (λ z. IsEntry (Has L) (name_of old) (entry_renamed f z)) (sym (x.is ∙ ap (entry_by x.id) x.of.body_is)) (entry_with old x.id x.of.first x.of.second numbered neighbor (router (router_in (name_of old)) refl)))
       (subst (λ z. IsEntry (Has L) z (entry_of i.0 d)) same (entry-named L objects laid i u d there y))
     where
       has : Has L (name_of old) i
@@ -124,8 +131,15 @@ module _ (L : Layout Rid) (objects : Objects) (laid : IsLaidOut L objects) (defa
       neighbor : (hop : Hop) → name_of old ≡ name.Neighbor hop → Has L (name.Rif hop.on) (f x.of.first)
       neighbor hop h =
           let on : Has L (name.Rif hop.on) y.first = subst (λ o. IsAt (Has L) o y.first) (neighbor_first u hop (same ∙ h)) y.first_at in
-          let told : at (name.Rif hop.on) x.of.first = subst (λ o. IsAt (λ n v. IsEnteredBy old → at n v) o x.of.first) (neighbor_first old hop h) x.of.first_at (neighbor_entered old hop h) in
+          let told : at (name.Rif hop.on) x.of.first = subst (λ o. IsAt (λ n v. IsEnteredBy old n → at n v) o x.of.first) (neighbor_first old hop h) x.of.first_at (neighbor_entered old hop h) in
           subst (Has L (name.Rif hop.on)) (sym (tied (name.Rif hop.on) x.of.first y.first refl on told)) on
+
+      router : (w : Vrf) → router_in (name_of old) ≡ w → IsAt (Has L) (router_name w) (f x.of.second)
+      router vrf.Default h = tt
+      router (vrf.Named label) h =
+          let in_it : Has L (name.VirtualRouter label) y.second = subst (λ o. IsAt (Has L) o y.second) (router_second u label (ap router_in same ∙ h)) y.second_at in
+          let told : at (name.VirtualRouter label) x.of.second = subst (λ o. IsAt (λ n v. IsEnteredBy old n → at n v) o x.of.second) (router_second old label h) x.of.second_at (router_entered old label h) in
+          subst (Has L (name.VirtualRouter label)) (sym (tied (name.VirtualRouter label) x.of.second y.second refl in_it told)) in_it
 
   -- ---- a thing is taken away
 

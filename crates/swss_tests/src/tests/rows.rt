@@ -5,7 +5,7 @@ use super::common::{Run, are_of, assert_shown, fields_of, shown};
 use row_store::Rows;
 use std::alloc::Global;
 use std::process::Abort;
-use swss_types::{Bits, Family, Ip, Prefix};
+use swss_types::{Bits, Family, Ip, Prefix, Vrf};
 use table_schema::{Fields, Key, Write};
 
 /// The two rows, in key order.
@@ -51,13 +51,16 @@ const WRITES: [(Of, Run, &[Run], &[Run]); 10] = [
 fn key(of: Of) -> Key {
     match of {
         Of::Port => Key::Port(0),
-        Of::Route => Key::Route(Prefix {
-            ip: Ip {
-                family: Family::V4,
-                bits: Bits::new(0x0A00_0000),
+        Of::Route => Key::Route(
+            Vrf::Default,
+            Prefix {
+                ip: Ip {
+                    family: Family::V4,
+                    bits: Bits::new(0x0A00_0000),
+                },
+                len: 8,
             },
-            len: 8,
-        }),
+        ),
     }
 }
 
@@ -87,8 +90,8 @@ fn have_keys(rt: &impl Abort, rows: &Rows, port: bool, route: bool) -> bool {
     match keys.as_slice() {
         [] => !port && !route,
         [Key::Port(_)] => port && !route,
-        [Key::Route(_)] => !port && route,
-        [Key::Port(_), Key::Route(_)] => port && route,
+        [Key::Route(..)] => !port && route,
+        [Key::Port(_), Key::Route(..)] => port && route,
         _ => false,
     }
 }

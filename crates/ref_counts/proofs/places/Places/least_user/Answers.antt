@@ -1,6 +1,6 @@
 use Rattle.std.proofs.Common.{◌≡◌, None, Some, rules, ◌∙◌}
-use Rattle.table_schema.specs.declared.key.Key.TheVariants as key
 use Rattle.ref_counts.specs.Kept.{is_pinned, settled, users_in}
+use Rattle.ref_counts.specs.Parted.{route_key}
 use Rattle.late_maps.specs.Segments.{renamed}
 use Rattle.ref_counts.specs.Registered.{first_of}
 use Rattle.ref_counts.proofs.Keeping.{readable-first}
@@ -16,10 +16,9 @@ copied-requires c =
 pub returns-in-Some : goal.returns-in-Some
 returns-in-Some c =
     let least : Some c.in-Some.key.now ≡ first_of (users_in c.self.inside.rows c.args.pins.now) = search rules in
-    rw (c.copied.ensures, ← c.self.view_is) (least-before c.in-Some.key.now c.self.inside.rows (renamed key.Route c.self.inside.routes) c.args.pins.now least)
+    rw (c.copied.ensures, ← c.self.view_is) (least-before c.in-Some.key.now c.self.inside.rows (renamed route_key c.self.inside.routes) c.args.pins.now least)
 
 pub returns-in-None : goal.returns-in-None
 returns-in-None c =
     let none : None ≡ first_of (users_in c.self.inside.rows c.args.pins.now) = search rules in
-    let route : c.map.result ≡ first_of (users_in (renamed key.Route c.self.inside.routes) c.args.pins.now) = search rules in
-    rw (← c.self.view_is) (route ∙ least-behind c.self.inside.rows (renamed key.Route c.self.inside.routes) c.args.pins.now none)
+    rw (← c.self.view_is) (c.least_route.ensures ∙ least-behind c.self.inside.rows (renamed route_key c.self.inside.routes) c.args.pins.now none)

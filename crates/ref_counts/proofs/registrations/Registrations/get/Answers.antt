@@ -10,7 +10,7 @@ pub returns-in-Neighbor : goal.returns-in-Neighbor
 returns-in-Neighbor c = c.get-in-Neighbor.ensures ∙ (neighbor-stands c.self.inside c.self.invariant c.in-Neighbor.neighbor).found ∙ ap₂ registered_at c.self.view_is (sym c.in-Neighbor.ensures)
 
 pub returns-in-Route : goal.returns-in-Route
-returns-in-Route c = c.get-in-Route.ensures ∙ (route-stands c.self.inside c.self.invariant c.in-Route.prefix.now).found ∙ ap₂ registered_at c.self.view_is (sym c.in-Route.ensures)
+returns-in-Route c = c.get-in-Route.ensures ∙ (route-stands c.self.inside c.self.invariant c.in-Route.route).found ∙ ap₂ registered_at c.self.view_is (sym c.in-Route.ensures)
 
 pub returns-in-Other : goal.returns-in-Other
 returns-in-Other c = c.get-in-Other.ensures ∙ (other-stands c.self.inside c.self.invariant c.in-Other.name.now c.in-Other.ensures.1).found ∙ ap₂ registered_at c.self.view_is (sym c.in-Other.ensures.0)

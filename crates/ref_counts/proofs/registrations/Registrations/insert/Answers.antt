@@ -17,7 +17,7 @@ pub returns-in_ok-insert-in-Neighbor-clause-ok : goal.returns-in_ok-insert-in-Ne
 returns-in_ok-insert-in-Neighbor-clause-ok c = (neighbor-stands c.self.inside c.self.invariant c.in-Neighbor.neighbor).put c.insert-in-Neighbor.new.self c.args.registration c.in_ok-insert-in-Neighbor.ensures.entries ∙ ap₂ (λ ns n. insert_entry registered_name_cmp ns n c.args.registration) c.self.view_is (sym c.in-Neighbor.ensures)
 
 pub returns-in_ok-insert-in-Route-clause-ok : goal.returns-in_ok-insert-in-Route-clause-ok
-returns-in_ok-insert-in-Route-clause-ok c = (route-stands c.self.inside c.self.invariant c.in-Route.prefix).put c.insert-in-Route.new.self c.args.registration c.in_ok-insert-in-Route.ensures.entries ∙ ap₂ (λ ns n. insert_entry registered_name_cmp ns n c.args.registration) c.self.view_is (sym c.in-Route.ensures)
+returns-in_ok-insert-in-Route-clause-ok c = (route-stands c.self.inside c.self.invariant c.in-Route.route).put c.insert-in-Route.new.self c.args.registration c.in_ok-insert-in-Route.ensures.entries ∙ ap₂ (λ ns n. insert_entry registered_name_cmp ns n c.args.registration) c.self.view_is (sym c.in-Route.ensures)
 
 pub returns-in_ok-insert-in-Other-clause-ok : goal.returns-in_ok-insert-in-Other-clause-ok
 returns-in_ok-insert-in-Other-clause-ok c = (other-stands c.self.inside c.self.invariant c.in-Other.name c.in-Other.ensures.1).put c.insert-in-Other.new.self c.args.registration c.in_ok-insert-in-Other.ensures.entries ∙ ap₂ (λ ns n. insert_entry registered_name_cmp ns n c.args.registration) c.self.view_is (sym c.in-Other.ensures.0)

@@ -24,10 +24,10 @@ pub returns-in-Neighbor-clause-removed : goal.returns-in-Neighbor-clause-removed
 returns-in-Neighbor-clause-removed c = (neighbor-stands c.self.inside c.self.invariant c.in-Neighbor.neighbor).removed c.remove-in-Neighbor.new.self c.remove-in-Neighbor.ensures.entries ∙ ap₂ (λ ns n. remove_entry (is_at (registered_name_cmp n)) ns) c.self.view_is (sym c.in-Neighbor.ensures)
 
 pub returns-in-Route-clause-value : goal.returns-in-Route-clause-value
-returns-in-Route-clause-value c = c.remove-in-Route.ensures.value ∙ (route-stands c.self.inside c.self.invariant c.in-Route.prefix.now).found ∙ ap₂ registered_at c.self.view_is (sym c.in-Route.ensures)
+returns-in-Route-clause-value c = c.remove-in-Route.ensures.value ∙ (route-stands c.self.inside c.self.invariant c.in-Route.route).found ∙ ap₂ registered_at c.self.view_is (sym c.in-Route.ensures)
 
 pub returns-in-Route-clause-removed : goal.returns-in-Route-clause-removed
-returns-in-Route-clause-removed c = (route-stands c.self.inside c.self.invariant c.in-Route.prefix.now).removed c.remove-in-Route.new.self c.remove-in-Route.ensures.entries ∙ ap₂ (λ ns n. remove_entry (is_at (registered_name_cmp n)) ns) c.self.view_is (sym c.in-Route.ensures)
+returns-in-Route-clause-removed c = (route-stands c.self.inside c.self.invariant c.in-Route.route).removed c.remove-in-Route.new.self c.remove-in-Route.ensures.entries ∙ ap₂ (λ ns n. remove_entry (is_at (registered_name_cmp n)) ns) c.self.view_is (sym c.in-Route.ensures)
 
 pub returns-in-Other-clause-value : goal.returns-in-Other-clause-value
 returns-in-Other-clause-value c = c.remove-in-Other.ensures.value ∙ (other-stands c.self.inside c.self.invariant c.in-Other.name.now c.in-Other.ensures.1).found ∙ ap₂ registered_at c.self.view_is (sym c.in-Other.ensures.0)

@@ -1,18 +1,19 @@
 use Rattle.std.proofs.Common.{Ok, sym, ap, subst}
 use Rattle.orch_flight.specs.Starting.{IsBegunBy, flown}
 use Rattle.route_orch.specs.Routes.{IsFirst, operation_of_route, route_state}
-use Rattle.route_orch.specs.Targets.{IsRouteRow}
-use Rattle.route_orch.proofs.Operations.{route-row, rows, started-as}
+use Rattle.route_orch.proofs.Operations.{new-route-row, route-row, rows, started-as}
 use Rattle.route_orch.proofs.flight.RouteFlight.start.Goals as goal
 
 pub body_of-requires-clause-old : goal.body_of-requires-clause-old
-body_of-requires-clause-old c = route-row c.args.plan.now c.args.reg.now c.args.key.now (rows c.args.old) c.requires.key (λ r e none. c.requires.may.old_fits r e)
-
-pub body_of-requires-clause-new : goal.body_of-requires-clause-new
-body_of-requires-clause-new c = subst IsRouteRow (sym c.as_ref-given.ensures.value) (route-row c.args.plan.now c.args.reg.now c.args.key.now c.args.new c.requires.key c.requires.may.new_fits)
+body_of-requires-clause-old c = route-row c.args.plan.now c.args.key.now (rows c.args.old) c.requires.key c.requires.may.old_fits
 
 pub own_row-wanted-requires : goal.own_row-wanted-requires
-own_row-wanted-requires c = route-row c.args.plan.now c.args.reg.now c.args.key.now c.args.new c.requires.key c.requires.may.new_fits
+own_row-wanted-requires c =
+    let plan = c.args.plan.now in
+    let k = c.args.key.now in
+    let old = rows c.args.old in
+    new-route-row plan c.args.reg.now c.args.room.now c.args.used.now c.args.worker k old c.args.new c.in_ok-begin.field-0 c.begin.new.reg c.begin.new.room c.in-Ok.is c.requires.key c.requires.may
+    (subst (λ o. IsBegunBy plan c.args.reg.now c.args.room.now c.args.used.now c.args.worker k old o c.in_ok-begin.field-0 c.begin.new.reg c.begin.new.room) c.as_ref-given.ensures.value c.in_ok-begin.ensures.begun)
 
 pub returns-in-Ok-clause-started : goal.returns-in-Ok-clause-started
 returns-in-Ok-clause-started c =

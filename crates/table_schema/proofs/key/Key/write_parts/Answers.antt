@@ -9,3 +9,6 @@ returns-in_ok-write_named-in-Addr-clause-ok c = rw c.in-Addr.is (behind_others c
 
 pub returns-in_ok-write_named-in-Neigh-clause-ok : goal.returns-in_ok-write_named-in-Neigh-clause-ok
 returns-in_ok-write_named-in-Neigh-clause-ok c = rw c.in-Neigh.is (behind_others c.write_ip.result _ _ _ _ _ c.in_ok-write_named-in-Neigh.ensures.ok c.write_ip.ensures.ok)
+
+pub returns-in_ok-write_routes-in-Route-clause-ok : goal.returns-in_ok-write_routes-in-Route-clause-ok
+returns-in_ok-write_routes-in-Route-clause-ok c = rw c.in-Route.is (behind_others c.write.result _ _ _ _ _ c.in_ok-write_routes-in-Route.ensures.ok c.write.ensures.ok)
