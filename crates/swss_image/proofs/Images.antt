@@ -11,6 +11,7 @@ use Rattle.std.specs.declared.cmp.Ordering.{Ordering}
 use Rattle.std.specs.declared.cmp.Ordering.TheVariants.{Less, Equal, Greater}
 use Rattle.std.proofs.lemmas.Bool.{eq-eqb}
 use Rattle.std.proofs.lemmas.Map.Lookups.{exact_bytes}
+use Rattle.std.proofs.lemmas.Str.{utf8_lossy-IsUtf8}
 use Rattle.serde_json.specs.Data.{Data, Members, depth, member, no_members, object, put}
 use Rattle.serde_json.specs.Read.{read}
 use Rattle.serde_json.specs.Written.{compact_text, has_float}
@@ -26,7 +27,7 @@ use Rattle.table_schema.proofs.Merges.{merged-nil}
 use Rattle.table_schema.proofs.Puts.{put-other}
 use Rattle.row_store.proofs.Copies.{fold-rising, with_row}
 use Rattle.swss_image.specs.Loaded.{image_of, in_json, or_shape, row_fields, some_fields, with_members, with_new_row}
-use Rattle.swss_image.specs.Saved.{AreNamed, HaveFields, fields_members, image_data, image_text, rows_members, with_rows}
+use Rattle.swss_image.specs.Saved.{AreNamed, HaveFields, fields_members, image_data, image_text, row_name, rows_members, with_rows}
 use Rattle.swss_image.specs.Texts.{key_in_word, text_before, texts_in}
 use Rattle.swss_image.proofs.Json.{json-some}
 use Rattle.swss_image.proofs.Members.{depth-image, float-image, put-step}
@@ -42,9 +43,17 @@ colon-found [] k lt is = absurd (omega arith)
 colon-found (x ∷ xs) zero lt is = ap (λ b. b || list_any (λ byte. byte == 58) xs) (eq-eqb x 58 is)
 colon-found (x ∷ xs) (suc k) lt is = ap (λ b. x == 58 || b) (colon-found xs k (omega arith) is) ∙ or-true (x == 58)
 
+-- a proper key is written as the name of its row
+pub row_name-proper : (k : Key) → IsProperKey k → row_name k ≡ key_text k
+row_name-proper k h = utf8_lossy-IsUtf8 (key_text k) h.utf8
+
 -- the written name of a proper key reads as the key
 pub key_in_word-key_text : (k : Key) → IsProperKey k → key_in_word (key_text k) ≡ Some k
 key_in_word-key_text k h = ap (λ b. cond b (Some (key_of (key_text k))) None) (colon-found (key_text k) h.colon.0 h.colon.1 h.colon.2) ∙ ap Some h.reads
+
+-- so does the name of its row
+key_in_word-row_name : (k : Key) → IsProperKey k → key_in_word (row_name k) ≡ Some k
+key_in_word-row_name k h = ap key_in_word (row_name-proper k h) ∙ key_in_word-key_text k h
 
 texts_in-fields_members : (fields : Pairs) → texts_in (fields_members fields) ≡ Some fields
 texts_in-fields_members [] = refl
@@ -151,18 +160,18 @@ others-put k name d (member n e ms) o h =
 abbrev pub AreNew : Members → Rows → Type 0
 AreNew ms rows = AllByRecursion (λ row. AreOthers row.0 ms) rows
 
-new-put : (ms : Members) (k : Key) (d : Data) (rows : Rows) → IsProperKey k → AllByRecursion (λ y. key_cmp k y.0 ≡ Less) rows → AreNew ms rows → AreNew (put (key_text k) d ms) rows
+new-put : (ms : Members) (k : Key) (d : Data) (rows : Rows) → IsProperKey k → AllByRecursion (λ y. key_cmp k y.0 ≡ Less) rows → AreNew ms rows → AreNew (put (row_name k) d ms) rows
 new-put ms k d [] proper less h = tt
 new-put ms k d (row ∷ rows) proper less h =
-    (others-put row.0 (key_text k) d ms (subst (IsOther row.0) (sym (key_in_word-key_text k proper)) (ap is_eq less.0)) h.0, new-put ms k d rows proper less.1 h.1)
+    (others-put row.0 (row_name k) d ms (subst (IsOther row.0) (sym (key_in_word-row_name k proper)) (ap is_eq less.0)) h.0, new-put ms k d rows proper less.1 h.1)
 
 -- rows that are written behind members
 laid-members : (ms : Members) (done rows : Rows) → with_members ms [] ≡ Some done → AreProperKeys (keys_of rows) → HaveFields rows → AreNamed rows → HasRisingRows rows → AreNew ms rows
     → with_members (with_rows ms rows) [] ≡ Some (fold with_row done rows)
 laid-members ms done [] is proper some named rising new = is
 laid-members ms done (row ∷ rows) is proper some named rising new =
-    laid-members (put (key_text row.0) (object (fields_members row.1)) ms) (put_row row.0 row.1 done) rows
-    (with_members-one ms [] row.0 row.1 (key_text row.0) (object (fields_members row.1)) (key_in_word-key_text row.0 proper.0) (row_fields-object row.1 some.0 named.0) refl new.0 ∙ ap (option_map (put_row row.0 row.1)) is)
+    laid-members (put (row_name row.0) (object (fields_members row.1)) ms) (put_row row.0 row.1 done) rows
+    (with_members-one ms [] row.0 row.1 (row_name row.0) (object (fields_members row.1)) (key_in_word-row_name row.0 proper.0) (row_fields-object row.1 some.0 named.0) refl new.0 ∙ ap (option_map (put_row row.0 row.1)) is)
     proper.1 some.1 named.1 rising.1 (new-put ms row.0 (object (fields_members row.1)) rows proper.0 rising.0 new.1)
 
 new-none : (rows : Rows) → AreNew no_members rows

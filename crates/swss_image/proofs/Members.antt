@@ -12,10 +12,9 @@ use Rattle.serde_json.proofs.Views.{members_view-insert_entry}
 use Rattle.std.specs.BTreeMap.{insert_entry}
 use Rattle.serde_json.specs.declared.value.Value.{Value}
 use Rattle.table_schema.specs.Fields.{HasRisingNames, Pairs, by_bytes}
-use Rattle.table_schema.specs.KeyText.{key_text}
 use Rattle.table_schema.specs.Rows.{Rows}
 use Rattle.table_schema.proofs.Merges.{order}
-use Rattle.swss_image.specs.Saved.{fields_members, image_data, with_rows}
+use Rattle.swss_image.specs.Saved.{fields_members, image_data, row_name, with_rows}
 
 -- an entry more
 pub put_entry : (es : List (String Global × Value)) (k : String Global) (v : Value) → members_view (insert_entry string_cmp es k v) ≡ put (string_bytes k) (view v) (members_view es)
@@ -64,7 +63,7 @@ depth-rows : (ms : Members) (rows : Rows) → members_depth ms ≤ 1 → members
 depth-rows ms [] h = h
 depth-rows ms (row ∷ rows) h =
     let flat = depth-fields row.1 in
-    depth-rows (put (key_text row.0) (object (fields_members row.1)) ms) rows (depth-put (key_text row.0) (object (fields_members row.1)) ms 1 (omega arith) h)
+    depth-rows (put (row_name row.0) (object (fields_members row.1)) ms) rows (depth-put (row_name row.0) (object (fields_members row.1)) ms 1 (omega arith) h)
 
 -- an image is flat
 pub depth-image : (rows : Rows) → depth (image_data rows) ≤ 127
@@ -95,7 +94,7 @@ float-put k d (member l e ms) h b =
 
 float-rows : (ms : Members) (rows : Rows) → members_have_float ms ≡ false → members_have_float (with_rows ms rows) ≡ false
 float-rows ms [] h = h
-float-rows ms (row ∷ rows) h = float-rows (put (key_text row.0) (object (fields_members row.1)) ms) rows (float-put (key_text row.0) (object (fields_members row.1)) ms (float-fields row.1) h)
+float-rows ms (row ∷ rows) h = float-rows (put (row_name row.0) (object (fields_members row.1)) ms) rows (float-put (row_name row.0) (object (fields_members row.1)) ms (float-fields row.1) h)
 
 -- an image has no float
 pub float-image : (rows : Rows) → has_float (image_data rows) ≡ false

@@ -1,17 +1,14 @@
 // Rows as the text of their image.
 ghost use Rattle.std.specs.Prelude.{◌≡◌, ◌≤◌, false, IfOk, OnOk, Ok, Some, string_bytes};
 ghost use Rattle.std.specs.Str.{IsUtf8};
-ghost use Rattle.std.specs.Map.{keys_of};
 ghost use Rattle.serde_json.specs.Data.{depth, put};
 ghost use Rattle.serde_json.specs.Read.{max_depth, read};
 ghost use Rattle.serde_json.specs.Written.{compact_text, has_float};
 ghost use Rattle.serde_json.specs.View.{members_view, view};
-ghost use Rattle.swss_image.specs.Saved.{AreNamed, HaveFields, fields_members, image_data, image_text, rows_members};
+ghost use Rattle.swss_image.specs.Saved.{AreNamed, AreWhole, fields_members, image_data, image_text, row_name, rows_members};
 ghost use Rattle.swss_image.specs.Loaded.{image_of};
 ghost use Rattle.table_schema.specs.Rows.{HasRisingRows};
 ghost use Rattle.table_schema.specs.Fields.{HasRisingNames};
-ghost use Rattle.table_schema.specs.KeyText.{key_text};
-ghost use Rattle.table_schema.specs.ProperKey.{AreProperKeys, IsProperKey};
 
 use row_store::Rows;
 use serde_json::{Map, Value};
@@ -23,11 +20,10 @@ use table_schema::{Fields, Key};
 /// The version of the form in which images are written.
 pub(crate) const VERSION: u64 = 1;
 
-/// The text of the image of these rows.
+/// The text of the image of these rows. Where their keys are proper and each has a field, it is loaded as the same rows.
 pub fn save(alloc: Global, rows: &Rows) -> Result<Vec<u8>, OutOfMemory>
-    requires proper { AreProperKeys (keys_of rows.now) }
     ensures text { IfOk result (λ bytes. bytes.items ≡ image_text rows.now) }
-    ensures loads { IfOk result (λ bytes. HaveFields rows.now → image_of bytes.items ≡ Ok rows.now) }
+    ensures loads { IfOk result (λ bytes. AreWhole rows.now → image_of bytes.items ≡ Ok rows.now) }
 {
     let image = image(alloc, rows)?;
     write_image(alloc, &image)
@@ -44,7 +40,6 @@ fn write_image(alloc: Global, image: &Value) -> Result<Vec<u8>, OutOfMemory>
 
 /// The image of these rows.
 fn image(alloc: Global, rows: &Rows) -> Result<Value, OutOfMemory>
-    requires proper { AreProperKeys (keys_of rows.now) }
     ensures value { IfOk result (λ value. view value ≡ image_data rows.now) }
     ensures named { IfOk result (λ value. AreNamed rows.now) }
     ensures rising { IfOk result (λ value. HasRisingRows rows.now) }
@@ -66,7 +61,6 @@ fn image(alloc: Global, rows: &Rows) -> Result<Value, OutOfMemory>
 
 /// The members of the object of rows: each row under its written key.
 fn rows_object(alloc: Global, rows: &Rows) -> Result<Map<String, Value>, OutOfMemory>
-    requires proper { AreProperKeys (keys_of rows.now) }
     ensures members { IfOk result (λ members. members_view members.entries ≡ rows_members rows.now) }
     ensures named { IfOk result (λ members. AreNamed rows.now) }
     ensures rising { IfOk result (λ members. HasRisingRows rows.now) }
@@ -82,15 +76,11 @@ fn rows_object(alloc: Global, rows: &Rows) -> Result<Map<String, Value>, OutOfMe
 
 /// A key as it is written.
 fn key_string(alloc: Global, key: &Key) -> Result<String, OutOfMemory>
-    requires proper { IsProperKey key.now }
-    ensures { IfOk result (λ text. string_bytes text ≡ key_text key.now) }
+    ensures { IfOk result (λ text. string_bytes text ≡ row_name key.now) }
 {
     let mut text = Vec::new(alloc);
     key.write(&mut text)?;
-    match String::from_utf8(text) {
-        Ok(text) => Ok(text),
-        Err(_) => unreachable!(),
-    }
+    Ok(String::from_utf8_lossy(alloc, text.as_slice())?)
 }
 
 /// The members of the object of a row: each value under its name.

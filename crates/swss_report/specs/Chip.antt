@@ -14,6 +14,14 @@ pub record Stand (objects : Objects) (things : List Thing) : Type 0 where
   pub stand : IsPermutation (those (named objects)) things
   pub ordered : IsSorted thing_cmp things
 
--- how many things have lines, and these
+-- behind a word how many things have lines, and these
+abbrev pub things_text : List ℕ → Ports → List Thing → List ℕ
+things_text word plan things = count_line word (count_by has_line things) ++ flat_map (λ t. chip_line plan t) things
+
+-- what stands on the chip
 abbrev pub chip_text : Ports → List Thing → List ℕ
-chip_text plan things = count_line (codes "chip ") (count_by has_line things) ++ flat_map (λ t. chip_line plan t) things
+chip_text plan things = things_text (codes "chip ") plan things
+
+-- what is to stand on it
+abbrev pub view_text : Ports → List Thing → List ℕ
+view_text plan things = things_text (codes "view ") plan things

@@ -69,9 +69,9 @@ abbrev pub membership_text : Ports → ℕ → ℕ → Tagging → List ℕ
 membership_text plan vlan lane tagging = if_name_text (name.Vlan vlan) ++ 32 ∷ (port_text (port_named plan lane) ++ 32 ∷ tagging_text tagging)
 
 -- the virtual router that something is in, unless it is the default one
-abbrev pub router_text : Vrf → List ℕ
-router_text vrf.Default = []
-router_text (vrf.Named label) = codes " in " ++ vrf_name_text label
+abbrev pub within_text : Vrf → List ℕ
+within_text vrf.Default = []
+within_text (vrf.Named label) = codes " in " ++ vrf_name_text label
 
 -- the words of a thing
 abbrev pub thing_text : Ports → Thing → List ℕ
@@ -80,13 +80,13 @@ thing_text plan (thing.Vlan vlan) = codes "VLAN " ++ base_text plan (base.Vlan v
 thing_text plan (thing.VirtualRouter label) = codes "VIRTUAL_ROUTER " ++ vrf_name_text label
 thing_text plan (thing.BridgePort lane) = codes "BRIDGE_PORT " ++ base_text plan (base.Port lane)
 thing_text plan (thing.VlanMember vlan lane tagging) = codes "VLAN_MEMBER " ++ membership_text plan vlan lane tagging
-thing_text plan (thing.Rif b v) = codes "RIF " ++ base_text plan b ++ router_text v
-thing_text plan (thing.Own v ip) = codes "OWN_ADDRESS " ++ ip_text ip ++ router_text v
+thing_text plan (thing.Rif b v) = codes "RIF " ++ base_text plan b ++ within_text v
+thing_text plan (thing.Own v ip) = codes "OWN_ADDRESS " ++ ip_text ip ++ within_text v
 thing_text plan (thing.Neighbor hop mac) = codes "NEIGHBOR " ++ base_text plan hop.on ++ 32 ∷ ip_text hop.ip ++ 32 ∷ mac_text mac
 thing_text plan (thing.NextHop hop) = codes "NEXT_HOP " ++ hop_text plan hop
 thing_text plan (thing.Group hops) = codes "GROUP " ++ hops_text plan hops
 thing_text plan (thing.GroupMember hops hop) = codes "GROUP_MEMBER " ++ hops_text plan hops ++ 32 ∷ whop_text plan hop
-thing_text plan (thing.Route v prefix goal) = codes "ROUTE " ++ prefix_text prefix ++ router_text v ++ goal_text plan goal
+thing_text plan (thing.Route v prefix goal) = codes "ROUTE " ++ prefix_text prefix ++ within_text v ++ goal_text plan goal
 
 -- whether a thing has a line
 abbrev pub has_line : Thing → Bool

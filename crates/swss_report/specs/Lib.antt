@@ -7,6 +7,7 @@ pub mod Ended
 pub mod Ending
 pub mod Escaped
 pub mod Ignored
+pub mod Image
 pub mod Kinds
 pub mod Marks
 pub mod Round

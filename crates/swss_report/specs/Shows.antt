@@ -12,11 +12,12 @@ use Rattle.swss_report.specs.Counts.{counts_text}
 use Rattle.swss_report.specs.Ended.{Ended}
 use Rattle.swss_report.specs.Ending.{waits_at_end}
 use Rattle.swss_report.specs.Ignored.{ignored_text}
+use Rattle.swss_report.specs.Image.{shown_image}
 use Rattle.swss_report.specs.Tables.{tables_text}
 use Rattle.swss_report.specs.Waiting.{ready_text, waiting_text, warm_line}
 use Rattle.swss_report.specs.Ways.{forward_text}
 
--- what a show prints of a round whose calls have these lines; the image, which the script reader refuses as not built yet, prints nothing
+-- what a show prints of a round whose calls have these lines
 abbrev pub IsShown : Ended → List ℕ → Show → List ℕ → Type 0
 IsShown e calls show.Chip text = (things : List Thing) × Stand e.objects things × (text ≡ chip_text e.plan things)
 IsShown e calls show.Tables text = text ≡ tables_text e.rows
@@ -27,7 +28,7 @@ IsShown e calls show.Ready text = text ≡ ready_text (waits_at_end e.marks)
 IsShown e calls show.Calls text = text ≡ calls
 IsShown e calls show.Counts text = text ≡ counts_text e
 IsShown e calls (show.Forward ip) text = text ≡ forward_text e.plan ip (answer_of (forward (those (named e.objects)) (packet_to ip)))
-IsShown e calls show.Image text = text ≡ []
+IsShown e calls show.Image text = text ≡ shown_image e.rows
 
 -- what shows print, one after the other
 abbrev pub AreShown : Ended → List ℕ → List Show → List ℕ → Type 0

@@ -1,8 +1,8 @@
-// What stands on the chip, as the report lists it.
+// What stands on the chip, as the report lists it, and what is to stand on it.
 ghost use Rattle.std.specs.Prelude.{◌≡◌, ◌++◌, count_by, flat_map, IfOk, OnOk};
 ghost use Rattle.sai_types.specs.declared.thing.Thing.{Thing};
 ghost use Rattle.swss_report.specs.ChipLine.{chip_line, has_line};
-ghost use Rattle.swss_report.specs.Chip.{Stand, chip_text};
+ghost use Rattle.swss_report.specs.Chip.{Stand, chip_text, things_text, view_text};
 
 use crate::chip_line::{has_line, write_chip_line};
 use crate::counted::write_count;
@@ -29,7 +29,28 @@ pub(crate) fn write_chip(
 ) -> Result<(), OutOfMemory>
     ensures { OnOk result (out.new.items ≡ out.old.items ++ chip_text plan.now things.now) }
 {
-    write_count(out, b"chip ", count_lines(things) as u64)?;
+    write_counted(out, b"chip ", plan, things)
+}
+
+/// The lines of what is to stand on the chip: how many things have lines, and these, in the order of the things.
+pub fn view_lines(alloc: Global, plan: &PortPlan, things: &[Thing]) -> Result<Vec<u8>, OutOfMemory>
+    ensures { IfOk result (λ lines. lines.items ≡ view_text plan.now things.now) }
+{
+    let mut lines = Vec::new(alloc);
+    write_counted(&mut lines, b"view ", plan, things)?;
+    Ok(lines)
+}
+
+/// Appends behind a word how many things have lines, and these.
+fn write_counted(
+    out: &mut Vec<u8>,
+    word: &[u8],
+    plan: &PortPlan,
+    things: &[Thing],
+) -> Result<(), OutOfMemory>
+    ensures { OnOk result (out.new.items ≡ out.old.items ++ things_text word.now plan.now things.now) }
+{
+    write_count(out, word, count_lines(things) as u64)?;
     write_things(out, plan, things)
 }
 

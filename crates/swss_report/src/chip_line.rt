@@ -1,6 +1,6 @@
 // The line of a thing that stands on the chip.
 ghost use Rattle.std.specs.Prelude.{◌≡◌, ◌∷◌, ◌++◌, flat_map, OnOk};
-ghost use Rattle.swss_report.specs.ChipLine.{base_text, chip_line, goal_text, has_line, hop_text, hops_text, membership_text, port_line, port_text, router_text, thing_text, weight_text, whop_text};
+ghost use Rattle.swss_report.specs.ChipLine.{base_text, chip_line, goal_text, has_line, hop_text, hops_text, membership_text, port_line, port_text, within_text, thing_text, weight_text, whop_text};
 ghost use Rattle.swss_types.specs.Tagging.{tagging_text};
 ghost use Rattle.table_schema.specs.Plan.{port_named};
 
@@ -85,7 +85,7 @@ pub(crate) fn write_thing(
 
 /// The virtual router that something is in, unless it is the default one.
 fn write_router(out: &mut Vec<u8>, vrf: &Vrf) -> Result<(), OutOfMemory>
-    ensures { OnOk result (out.new.items ≡ out.old.items ++ router_text vrf.now) }
+    ensures { OnOk result (out.new.items ≡ out.old.items ++ within_text vrf.now) }
 {
     match vrf {
         Vrf::Default => Ok(()),

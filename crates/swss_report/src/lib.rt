@@ -9,6 +9,7 @@ mod counts;
 mod ending;
 mod escaped;
 mod ignored;
+mod image;
 mod kinds;
 mod marks;
 mod round;
@@ -17,4 +18,5 @@ mod tables;
 mod waiting;
 mod ways;
 
+pub use chip::view_lines;
 pub use round::{RoundEnd, round_lines};

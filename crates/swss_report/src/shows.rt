@@ -7,6 +7,7 @@ use crate::chip::{standing, write_chip};
 use crate::counts::write_counts;
 use crate::ending::waits_at_end;
 use crate::ignored::write_ignored;
+use crate::image::write_image;
 use crate::round::RoundEnd;
 use crate::tables::write_tables;
 use crate::waiting::{write_ready, write_waiting, write_warm};
@@ -57,6 +58,6 @@ fn write_show(
         }
         Show::Counts => write_counts(out, end),
         Show::Forward(ip) => write_forward(alloc, out, end.plan, end.chip, ip),
-        Show::Image => Ok(()),
+        Show::Image => write_image(alloc, out, end.rows),
     }
 }

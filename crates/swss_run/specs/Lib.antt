@@ -9,6 +9,8 @@ pub mod Run
 pub mod Running
 pub mod Session
 pub mod Status
+pub mod Tells
 pub mod Told
 pub mod Turned
+pub mod View
 pub mod Words

@@ -4,12 +4,14 @@
 mod input;
 mod outcome;
 mod output;
+mod reading;
 mod reporting;
 mod run;
 mod session;
 mod standard;
 mod status;
 mod told;
+mod view;
 mod words;
 
 pub use outcome::Outcome;

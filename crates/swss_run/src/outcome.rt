@@ -1,8 +1,10 @@
 // What a run leaves.
-ghost use Rattle.std.specs.Prelude.{◌≡◌};
+ghost use Rattle.std.specs.Prelude.{◌≡◌, None};
+ghost use Rattle.switch_model.specs.History.{no_history};
 
 use crate::Status;
 use sai_chip::SimChip;
+use std::alloc::Global;
 use switch_model::Log;
 
 /// What a run leaves: how it ended, what was taken and marked, and the chip.
@@ -17,6 +19,17 @@ pub struct Outcome {
 }
 
 impl Outcome {
+    /// An outcome where no session began.
+    pub(crate) fn without_session(alloc: Global, status: Status) -> Outcome
+        ensures { result ≡ record { status = status; log = no_history; chip = None } }
+    {
+        Outcome {
+            status,
+            log: Log::new(alloc),
+            chip: None,
+        }
+    }
+
     /// How the run ended, for a caller who needs no more: the log and the chip are given up.
     pub fn into_status(self) -> Status
         ensures { result ≡ self.status }

@@ -1,37 +1,40 @@
 // The top call.
-ghost use Rattle.std.specs.Prelude.{◌≡◌, ◌↔◌, false, None, map, IfOk};
+ghost use Rattle.std.specs.Prelude.{◌≡◌, ◌≤◌, ◌↔◌, false, None, Some, map, IfOk};
 ghost use Rattle.std.specs.List.{AllByRecursion};
 ghost use Rattle.std.specs.String.{string_bytes};
 ghost use Rattle.swss_types.specs.Outside.{HasRisen};
-ghost use Rattle.switch_model.specs.History.{no_history};
 ghost use Rattle.table_schema.specs.Plan.{IsPlan};
+ghost use Rattle.swss_script.specs.Generated.{generated};
 ghost use Rattle.swss_script.specs.Sent.{writes_in};
 ghost use Rattle.swss_service.specs.Taking.{HaveReadKeys};
+ghost use Rattle.swss_words.specs.Laws.{IsProper};
 ghost use Rattle.swss_run.specs.Input.{GaveFew};
-ghost use Rattle.swss_run.specs.Read.{IsScriptRead};
 ghost use Rattle.swss_run.specs.Run.{SaysOfSource, chip_fail, ends_early};
 ghost use Rattle.swss_run.specs.Session.{IsRun, TellsOfSession};
-ghost use Rattle.swss_run.specs.Words.{is_command};
+ghost use Rattle.swss_run.specs.Tells.{TellsByCommand};
+ghost use Rattle.swss_run.specs.Words.{swss_command};
 
-use crate::input::{Input, read_all};
+use crate::reading::read_input;
 use crate::session::{Left, run_rounds};
-use crate::words::is_run;
-use crate::{Outcome, Refused, Status, Why};
+use crate::view::view_source;
+use crate::words::read_command;
+use crate::{Outcome, Status};
 use sai_chip::{Fail, SimChip};
 use sai_types::Chip;
 use std::alloc::Global;
 use std::sync::Wait;
 use std::thread::Threads;
-use switch_model::Log;
-use swss_script::{Fails, Script};
+use swss_script::{Fails, Script, generate};
 use swss_service::Locked;
 use swss_types::{Gate, OutOfMemory, Sink, Source};
+use swss_words::Command;
 
 /// How many places the log has.
 pub const LOG_LIMIT: u64 = 4_194_304;
 
-/// Does all that the program does: reads the script from the source, brings the chip to what it says, and gives the
-/// sink the report. `words` are those behind the program's name.
+/// Does all that the program does. `run` reads the script from the source, brings the chip to what it says, and gives the
+/// sink the report; `view` gives the sink what is to stand for the script's writes; `load` runs a generated script. `words`
+/// are those behind the program's name.
 pub fn swss_main<R: Threads + Wait + Sync, S: Source, K: Sink, G: Gate + Sync>(
     _rt: &R,
     alloc: Global,
@@ -40,8 +43,8 @@ pub fn swss_main<R: Threads + Wait + Sync, S: Source, K: Sink, G: Gate + Sync>(
     sink: &mut K,
     _gate: &G,
 ) -> Outcome
-    // The words are refused exactly where they are no command.
-    ensures usage { (result.status ≡ Status.Usage) ↔ (is_command (map (λ w. string_bytes w) words.now) ≡ false) }
+    // The words are refused exactly where they are no command of the program.
+    ensures usage { (result.status ≡ Status.Usage) ↔ (swss_command (map (λ w. string_bytes w) words.now) ≡ None) }
 
     // On wrong words nothing is read; a script is refused only for what the bytes are that the source gave. However the run
     // ends, these are at most 67,108,865: one more than a script may have.
@@ -52,64 +55,86 @@ pub fn swss_main<R: Threads + Wait + Sync, S: Source, K: Sink, G: Gate + Sync>(
     ensures read_fault { result.status ≡ Status.ReadFault → HasRisen (S.faults source.old) (S.faults source.new) }
     ensures write_fault { result.status ≡ Status.WriteFault → HasRisen (K.faults sink.old) (K.faults sink.new) }
 
-    // On wrong words, a refused script and a fault of reading no session begins and nothing is written. Else the
-    // session is that of the script that the source gave: every chip call was legal, and outside applies they are few
-    // by the writes taken and the keys listed; every mark is true; the writes taken are the script's, round by round,
-    // in order and each once, the ends of the rounds rise, the log is full exactly where an event needs more places
-    // than are left, and the sink took the report as the status says. The chip has the script's failing calls and
-    // failed at no more than these, so a chip fault comes only where the script has one.
-    ensures session { TellsOfSession result.status result (S.left source.old) (S.left source.new) (K.holds sink.old) (K.holds sink.new) }
+    // On wrong words, a refused script and a fault of reading no session begins and nothing is written.
+    //
+    // Else the session of `run` is that of the script that the source gave, and that of `load` is that of the generated
+    // script, and nothing is read: every chip call was legal, and outside applies they are few by the writes taken and the
+    // keys listed; every mark is true; the writes taken are the script's, round by round, in order and each once, the ends
+    // of the rounds rise, the log is full exactly where an event needs more places than are left, and the sink took the
+    // report as the status says. The chip has the script's failing calls and failed at no more than these, so a chip fault
+    // comes only where the script has one.
+    //
+    // `view` begins no session and makes no chip. The sink took, as the status says, the text of the things that are to
+    // stand for the ready rows of all writes of the script that the source gave.
+    ensures session { TellsByCommand (swss_command (map (λ w. string_bytes w) words.now)) result (S.left source.old) (S.left source.new) (K.holds sink.old) (K.holds sink.new) }
 {
     run(alloc, words, source, sink)
 }
 
 /// The same, which waits for nobody.
 fn run<S: Source, K: Sink>(alloc: Global, words: &[String], source: &mut S, sink: &mut K) -> Outcome
-    ensures usage { (result.status ≡ Status.Usage) ↔ (is_command (map (λ w. string_bytes w) words.now) ≡ false) }
+    ensures usage { (result.status ≡ Status.Usage) ↔ (swss_command (map (λ w. string_bytes w) words.now) ≡ None) }
+    ensures refusal { SaysOfSource result.status (S.left source.old) (S.left source.new) }
+    ensures few { GaveFew (S.left source.old) (S.left source.new) }
+    ensures read_fault { result.status ≡ Status.ReadFault → HasRisen (S.faults source.old) (S.faults source.new) }
+    ensures write_fault { result.status ≡ Status.WriteFault → HasRisen (K.faults sink.old) (K.faults sink.new) }
+    ensures session { TellsByCommand (swss_command (map (λ w. string_bytes w) words.now)) result (S.left source.old) (S.left source.new) (K.holds sink.old) (K.holds sink.new) }
+{
+    match read_command(alloc, words) {
+        Ok(Some(command)) => carry_out(alloc, command, source, sink),
+        Ok(None) => Outcome::without_session(alloc, Status::Usage),
+        Err(OutOfMemory) => Outcome::without_session(alloc, Status::OutOfMemory),
+    }
+}
+
+/// Does what a command says, with one worker.
+fn carry_out<S: Source, K: Sink>(
+    alloc: Global,
+    command: Command,
+    source: &mut S,
+    sink: &mut K,
+) -> Outcome
+    requires { IsProper command }
+    ensures ran { result.status ≡ Status.Usage → ⊥ }
+    ensures refusal { SaysOfSource result.status (S.left source.old) (S.left source.new) }
+    ensures few { GaveFew (S.left source.old) (S.left source.new) }
+    ensures read_fault { result.status ≡ Status.ReadFault → HasRisen (S.faults source.old) (S.faults source.new) }
+    ensures write_fault { result.status ≡ Status.WriteFault → HasRisen (K.faults sink.old) (K.faults sink.new) }
+    ensures session { TellsByCommand (Some command) result (S.left source.old) (S.left source.new) (K.holds sink.old) (K.holds sink.new) }
+{
+    match command {
+        Command::Run { .. } => run_source(alloc, source, sink),
+        Command::View => view_source(alloc, source, sink),
+        Command::Load { count, seed } => run_generated(alloc, count, seed, sink),
+    }
+}
+
+/// Runs the script that the source gives.
+fn run_source<S: Source, K: Sink>(alloc: Global, source: &mut S, sink: &mut K) -> Outcome
+    ensures ran { result.status ≡ Status.Usage → ⊥ }
     ensures refusal { SaysOfSource result.status (S.left source.old) (S.left source.new) }
     ensures few { GaveFew (S.left source.old) (S.left source.new) }
     ensures read_fault { result.status ≡ Status.ReadFault → HasRisen (S.faults source.old) (S.faults source.new) }
     ensures write_fault { result.status ≡ Status.WriteFault → HasRisen (K.faults sink.old) (K.faults sink.new) }
     ensures session { TellsOfSession result.status result (S.left source.old) (S.left source.new) (K.holds sink.old) (K.holds sink.new) }
 {
-    if !is_run(words) {
-        return at_once(alloc, Status::Usage);
-    }
     match read_input(alloc, source) {
         Ok(script) => run_script(alloc, script, sink),
-        Err(status) => at_once(alloc, status),
+        Err(status) => Outcome::without_session(alloc, status),
     }
 }
 
-/// An outcome where no session began.
-fn at_once(alloc: Global, status: Status) -> Outcome
-    ensures { result ≡ record { status = status; log = no_history; chip = None } }
+/// Runs the generated script of this size and seed.
+fn run_generated<K: Sink>(alloc: Global, count: u64, seed: u64, sink: &mut K) -> Outcome
+    requires few { count ≤ 60000 }
+    ensures ran { ends_early result.status ≡ false }
+    ensures write_fault { result.status ≡ Status.WriteFault → HasRisen (K.faults sink.old) (K.faults sink.new) }
+    ensures session { IsRun (generated count seed) result (K.holds sink.old) (K.holds sink.new) }
 {
-    Outcome {
-        status,
-        log: Log::new(alloc),
-        chip: None,
-    }
-}
-
-/// The script that the source gives, or the status that ends the run.
-fn read_input<S: Source>(alloc: Global, source: &mut S) -> Result<Script, Status>
-    ensures read { IsScriptRead (S.left source.old) (S.faults source.old) result (S.left source.new) (S.faults source.new) }
-    ensures few { GaveFew (S.left source.old) (S.left source.new) }
-{
-    match read_all(alloc, source) {
-        Ok(Input::Whole(bytes)) => match Script::read(alloc, &bytes) {
-            Ok(Ok(script)) => Ok(script),
-            Ok(Err(refused)) => Err(Status::ScriptRefused(refused)),
-            Err(OutOfMemory) => Err(Status::OutOfMemory),
-        },
-        Ok(Input::TooLong) => Err(Status::ScriptRefused(Refused {
-            line: 0,
-            why: Why::TooLong,
-        })),
-        Ok(Input::Failed) => Err(Status::ReadFault),
-        Err(OutOfMemory) => Err(Status::OutOfMemory),
-    }
+    let Ok(script) = generate(alloc, count, seed) else {
+        return Outcome::without_session(alloc, Status::OutOfMemory);
+    };
+    run_script(alloc, script, sink)
 }
 
 /// Runs a script on a new chip, and writes its report.
@@ -128,7 +153,7 @@ fn run_script<K: Sink>(alloc: Global, script: Script, sink: &mut K) -> Outcome
         ..
     } = script;
     let Ok(fails) = chip_fails(alloc, &fails) else {
-        return at_once(alloc, Status::OutOfMemory);
+        return Outcome::without_session(alloc, Status::OutOfMemory);
     };
     let chip = SimChip::new(alloc, caps, fails);
     let locked = Locked::begin(alloc, plan, caps, LOG_LIMIT, chip);

@@ -1,8 +1,12 @@
 pub mod Batches
 pub mod Blanks
+pub mod Eaches
 pub mod FewWrites
 pub mod Kept
 pub mod LinesIn
+pub mod MadeKeys
+pub mod MadePorts
+pub mod MadeTexts
 pub mod Numbered
 pub mod PlacedWrites
 pub mod SentOrder

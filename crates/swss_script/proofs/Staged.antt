@@ -1,16 +1,16 @@
 -- an accepted script has the forms of this stage alone
-use Rattle.std.proofs.Common.{◌≡◌, ℕ, ◌+◌, ◌<◌, ◌≤◌, ◌==◌, nat_lt, Bool, true, false, cond, ◌&&◌, ◌||◌, List, [], ◌∷◌, ◌++◌, length, map, Option, Some, None, Result, Ok, Err, refl, sym, ap, ap₂, ◌∙◌, subst, arith, length-append, bytes_eq, slice_index_or, slice_set, if◌then◌else◌}
+use Rattle.std.proofs.Common.{◌≡◌, ℕ, ◌+◌, ◌<◌, ◌≤◌, ◌==◌, nat_lt, Bool, true, false, cond, ◌||◌, List, [], ◌∷◌, ◌++◌, length, map, Option, Some, None, Result, Ok, Err, refl, sym, ap, ap₂, ◌∙◌, subst, arith, length-append, bytes_eq, slice_index_or, slice_set, if◌then◌else◌}
 use Rattle.std.proofs.lemmas.Bool.{eqb-false, ltb-true, ne_eqb, or_parts}
-use Rattle.std.proofs.lemmas.List.Folds.{list_all-append, list_any-append}
-use Rattle.std.specs.List.{list_all, list_any, position}
+use Rattle.std.proofs.lemmas.List.Folds.{list_any-append}
+use Rattle.std.specs.List.{list_any, position}
 use Rattle.table_schema.specs.Plan.{IsPlan, Ports, plan_step}
 use Rattle.table_schema.specs.declared.plan.PlanWhy.{PlanWhy}
 use Rattle.table_schema.proofs.Plans.{IsPlan-none, IsPlan-plan_step}
 use Rattle.sai_types.specs.Objects.{level}
 use Rattle.sai_types.specs.declared.kind.Kind.{Kind}
-use Rattle.swss_script.specs.Built.{is_built, is_built_show}
+use Rattle.swss_script.specs.Built.{is_built}
 use Rattle.swss_script.specs.Script.{new_draft, ended_in, in_head, in_section, producer_named, draft_round_ended, script_at, script_of, section_begun, round_settled, shown_in, with_capacity, with_fail, draft_with_line, with_plan}
-use Rattle.swss_script.specs.Stage.{IsOfStage, NameEachOnce, is_built_round}
+use Rattle.swss_script.specs.Stage.{IsOfStage, NameEachOnce}
 use Rattle.swss_script.specs.declared.draft.Draft.{Draft}
 use Rattle.swss_script.specs.declared.draft.Place.{Place}
 use Rattle.swss_script.specs.declared.draft.Place.TheVariants as place
@@ -34,17 +34,9 @@ record IsBuiltScript (script : Script) : Type 0 where
   image : script.image ≡ []
   plan : IsPlan script.plan
   producers : length script.producers ≤ 4
-  rounds : list_all is_built_round script.rounds ≡ true
 
-record IsStaged (d : Draft) : Type 0 where
-  script : IsBuiltScript d.script
-  shows : list_all is_built_show d.shows ≡ true
-
-all-more : {X : Type 0} (test : X → Bool) (xs ys : List X) → list_all test xs ≡ true → list_all test ys ≡ true → list_all test (xs ++ ys) ≡ true
-all-more test xs ys first last = list_all-append test xs ys ∙ ap₂ (λ a b. a && b) first last
-
-all-last : {X : Type 0} (test : X → Bool) (xs : List X) (x : X) → list_all test xs ≡ true → test x ≡ true → list_all test (xs ++ x ∷ []) ≡ true
-all-last test xs x first last = all-more test xs (x ∷ []) first (ap (λ b. b && true) last)
+abbrev IsStaged : Draft → Type 0
+IsStaged d = IsBuiltScript d.script
 
 -- a failing call more, with a number of its own
 once-last : (fails : List Fail2) (fail : Fail2) → list_any (λ other. other.at == fail.at) fails ≡ false → NameEachOnce fails → NameEachOnce (fails ++ fail ∷ [])
@@ -56,30 +48,20 @@ once-last (first ∷ fails) fail new once =
 
 -- ---- what ends
 
-staged-round : (d : Draft) → IsStaged d → IsBuiltScript (draft_round_ended d).script
-staged-round d h =
-    let s = h.script in
-    record {
-      fails = s.fails;
-      image = s.image;
-      plan = s.plan;
-      producers = s.producers;
-      rounds = all-last is_built_round d.script.rounds (record { sections = d.sections; shows = d.shows }) s.rounds (h.shows);
-    }
+staged-round : (d : Draft) → IsStaged d → IsStaged (draft_round_ended d)
+staged-round d h = record { fails = h.fails; image = h.image; plan = h.plan; producers = h.producers }
 
 -- what is open ends, and another place is next
 staged-ended : (p next : Place) (d : Draft) → IsStaged d → IsStaged (record (ended_in p d) { place = next })
-staged-ended place.Head next d h = record { script = h.script; shows = h.shows }
-staged-ended (place.Section producer) next d h = record { script = h.script; shows = h.shows }
-staged-ended place.Settled next d h = record { script = staged-round d h; shows = refl }
+staged-ended place.Head next d h = h
+staged-ended (place.Section producer) next d h = h
+staged-ended place.Settled next d h = staged-round d h
 
 -- ---- one line
 
 staged-plan : (d e : Draft) (text : List ℕ) (plan : Result Ports PlanWhy) → plan_step d.script.plan text ≡ plan → with_plan d plan ≡ Ok e → IsStaged d → IsStaged e
 staged-plan d e text (Ok plan) is k h =
-    let s = h.script in
-    let more : IsBuiltScript (record d.script { plan = plan }) = record { fails = s.fails; image = s.image; plan = IsPlan-plan_step d.script.plan plan text s.plan is; producers = s.producers; rounds = s.rounds } in
-    subst IsStaged (same-ok (record d { script = record d.script { plan = plan } }) e k) (record { script = more; shows = h.shows })
+    subst IsStaged (same-ok (record d { script = record d.script { plan = plan } }) e k) (record { fails = h.fails; image = h.image; plan = IsPlan-plan_step d.script.plan plan text h.plan is; producers = h.producers })
 staged-plan d e text (Err fault) is k h = cc
 
 -- a capacity of the head
@@ -91,10 +73,7 @@ staged-capacity d e kind most k h = by (slice_index_or d.kinds (level kind) fals
 
     by : (twice : Bool) → (if twice then Err why.HeadTwice else Ok room) ≡ Ok e → IsStaged e
     by true k = cc
-    by false k =
-        let s = h.script in
-        let more : IsBuiltScript room.script = record { fails = s.fails; image = s.image; plan = s.plan; producers = s.producers; rounds = s.rounds } in
-        subst IsStaged (same-ok room e k) (record { script = more; shows = h.shows })
+    by false k = subst IsStaged (same-ok room e k) (record { fails = h.fails; image = h.image; plan = h.plan; producers = h.producers })
 
 -- a failing call of the head
 staged-fail : (d e : Draft) (fail : Fail2) → with_fail d fail ≡ Ok e → IsStaged d → IsStaged e
@@ -105,10 +84,7 @@ staged-fail d e fail k h = by (list_any (λ other. other.at == fail.at) d.script
 
     by : (twice : Bool) → list_any (λ other. other.at == fail.at) d.script.fails ≡ twice → (if twice then Err why.HeadTwice else Ok more) ≡ Ok e → IsStaged e
     by true is k = cc
-    by false is k =
-        let s = h.script in
-        let producer_named : IsBuiltScript more.script = record { fails = once-last d.script.fails fail is s.fails; image = s.image; plan = s.plan; producers = s.producers; rounds = s.rounds } in
-        subst IsStaged (same-ok more e k) (record { script = producer_named; shows = h.shows })
+    by false is k = subst IsStaged (same-ok more e k) (record { fails = once-last d.script.fails fail is h.fails; image = h.image; plan = h.plan; producers = h.producers })
 
 staged-head : (p : Place) (d e : Draft) (line : Option HeadLine) → is_built (Head line) ≡ true → in_head p d line ≡ Ok e → IsStaged d → IsStaged e
 staged-head place.Head d e (Some (head.Port text)) built k h = staged-plan d e text (plan_step d.script.plan text) refl k h
@@ -120,22 +96,19 @@ staged-head (place.Section producer) d e line built k h = cc
 staged-head place.Settled d e line built k h = cc
 
 staged-acts : (p : Place) (d e : Draft) (acts : List Act) → in_section p d acts ≡ Ok e → IsStaged d → IsStaged e
-staged-acts (place.Section producer) d e acts k h = subst IsStaged (same-ok (record d { acts = d.acts ++ acts }) e k) (record { script = h.script; shows = h.shows })
+staged-acts (place.Section producer) d e acts k h = subst IsStaged (same-ok (record d { acts = d.acts ++ acts }) e k) h
 staged-acts place.Head d e acts k h = cc
 staged-acts place.Settled d e acts k h = cc
 
-staged-shown : (p : Place) (d e : Draft) (what : Show) → is_built_show what ≡ true → shown_in p d what ≡ Ok e → IsStaged d → IsStaged e
-staged-shown place.Settled d e what built k h =
-    subst IsStaged (same-ok (record d { shows = d.shows ++ what ∷ [] }) e k) (record { script = h.script; shows = all-last is_built_show d.shows what h.shows built })
-staged-shown place.Head d e what built k h = cc
-staged-shown (place.Section producer) d e what built k h = cc
+staged-shown : (p : Place) (d e : Draft) (what : Show) → shown_in p d what ≡ Ok e → IsStaged d → IsStaged e
+staged-shown place.Settled d e what k h = subst IsStaged (same-ok (record d { shows = d.shows ++ what ∷ [] }) e k) h
+staged-shown place.Head d e what k h = cc
+staged-shown (place.Section producer) d e what k h = cc
 
 staged-new : (d : Draft) (name : List ℕ) → length d.script.producers < 4 → IsStaged d → IsStaged (with_producer d name)
 staged-new d name fits h =
-    let s = h.script in
     let few : length (d.script.producers ++ name ∷ []) ≤ 4 = omega (arith, fits, length-append d.script.producers (name ∷ [])) in
-    let more : IsBuiltScript (with_producer d name).script = record { fails = s.fails; image = s.image; plan = s.plan; producers = few; rounds = s.rounds } in
-    record { script = more; shows = h.shows }
+    record { fails = h.fails; image = h.image; plan = h.plan; producers = few }
 
 staged-first : (d e : Draft) (name : List ℕ) (fits : Bool) → nat_lt (length d.script.producers) 4 ≡ fits → cond fits (Ok (section_begun (with_producer d name) (length d.script.producers + 1))) (Err why.TooManyProducers) ≡ Ok e → IsStaged d → IsStaged e
 staged-first d e name true is k h =
@@ -156,7 +129,7 @@ staged-line d e (Batch None) built k h = cc
 staged-line d e Block built k h = cc
 staged-line d e Restart built k h = staged-acts d.place d e (act.Restart ∷ []) k h
 staged-line d e Settle built k h = subst IsStaged (same-ok _ _ k) (staged-ended d.place place.Settled d h)
-staged-line d e (Shown what) built k h = staged-shown d.place d e what built k h
+staged-line d e (Shown what) built k h = staged-shown d.place d e what k h
 staged-line d e Other built k h = cc
 
 -- ---- scripts
@@ -175,12 +148,12 @@ done-at (place.Section producer) d is h = done-round (round_settled d) (staged-e
 
 done-script : (bytes : List ℕ) (script : Script) → script_of bytes ≡ Ok script → IsDone script
 done-script bytes script h =
-    let empty : IsBuiltScript new_draft.script = record { fails = tt; image = refl; plan = IsPlan-none; producers = omega arith; rounds = refl } in
-    kept-script IsStaged staged-line (λ d block s. record { script = s.script; shows = s.shows }) IsDone (λ d s. done-at d.place d refl s) bytes script (record { script = empty; shows = refl }) h
+    let empty : IsBuiltScript new_draft.script = record { fails = tt; image = refl; plan = IsPlan-none; producers = omega arith } in
+    kept-script IsStaged staged-line (λ d block s. s) IsDone (λ d s. done-at d.place d refl s) bytes script empty h
 
 -- what an accepted script of this stage has
 pub stage-of_script : (bytes : List ℕ) (script : Script) → script_of bytes ≡ Ok script → IsOfStage script
 stage-of_script bytes script h =
     let done = done-script bytes script h in
     let s = done.0 in
-    record { fails = s.fails; image = s.image; plan = s.plan; producers = s.producers; several = done.1; rounds = s.rounds; numbers = (numbered-script bytes script h).rounds }
+    record { fails = s.fails; image = s.image; plan = s.plan; producers = s.producers; several = done.1; numbers = (numbered-script bytes script h).rounds }

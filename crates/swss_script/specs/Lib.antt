@@ -2,6 +2,7 @@ pub mod Batch
 pub mod Built
 pub mod Fails
 pub mod Fields
+pub mod Generated
 pub mod Line
 pub mod Lines
 pub mod Plain

@@ -1,17 +1,11 @@
 -- Which forms a script of this stage has: a stage that brings a form takes its line out here. Own.
-use Rattle.std.specs.Prelude.{◌≡◌, ℕ, ◌==◌, ◌<◌, ◌≤◌, Bool, true, false, List, [], ◌∷◌, length}
-use Rattle.std.specs.List.{AllByRecursion, list_all, list_any}
+use Rattle.std.specs.Prelude.{◌≡◌, ℕ, ◌==◌, ◌<◌, ◌≤◌, false, List, [], ◌∷◌, length}
+use Rattle.std.specs.List.{AllByRecursion, list_any}
 use Rattle.table_schema.specs.Plan.{IsPlan}
-use Rattle.swss_script.specs.Built.{is_built_show}
 use Rattle.swss_script.specs.declared.draft.TheConstants.{MOST_PRODUCERS}
 use Rattle.swss_script.specs.declared.parts.Fail2.{Fail2}
-use Rattle.swss_script.specs.declared.parts.Round.{Round}
 use Rattle.swss_script.specs.declared.parts.Section.{Section}
 use Rattle.swss_script.specs.declared.script.Script.{Script}
-
--- a round of shows that the service has
-abbrev pub is_built_round : Round → Bool
-is_built_round round = list_all is_built_show round.shows
 
 -- each failing call is named once: no two have one number
 abbrev pub NameEachOnce : List Fail2 → Type 0
@@ -34,5 +28,4 @@ pub record IsOfStage (script : Script) : Type 0 where
   pub plan : IsPlan script.plan
   pub producers : length script.producers ≤ MOST_PRODUCERS
   pub several : 0 < length script.rounds
-  pub rounds : list_all is_built_round script.rounds ≡ true
   pub numbers : AllByRecursion (λ r. AreOfProducers (length script.producers) r.sections) script.rounds

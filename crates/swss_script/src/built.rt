@@ -1,8 +1,7 @@
 // Which forms of the language the service has.
 ghost use Rattle.std.specs.Prelude.{◌≡◌};
-ghost use Rattle.swss_script.specs.Built.{is_built, is_built_head, is_built_show};
+ghost use Rattle.swss_script.specs.Built.{is_built, is_built_head};
 
-use crate::Show;
 use crate::line::{HeadLine, Line};
 
 /// Whether the service has the form of a line: the others come with later stages.
@@ -11,7 +10,6 @@ pub fn is_built(line: &Line) -> bool
 {
     match line {
         Line::Head(Some(line)) => is_built_head(line),
-        Line::Shown(show) => is_built_show(*show),
         _ => true,
     }
 }
@@ -24,11 +22,4 @@ fn is_built_head(line: &HeadLine) -> bool
         HeadLine::Image(_) => false,
         HeadLine::Port(_) | HeadLine::Chip(_, _) | HeadLine::Fail(_) => true,
     }
-}
-
-/// Whether the service shows this.
-fn is_built_show(show: Show) -> bool
-    ensures { result ≡ is_built_show show }
-{
-    !matches!(show, Show::Image)
 }

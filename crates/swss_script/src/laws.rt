@@ -3,6 +3,7 @@ ghost use Rattle.std.specs.Prelude.{◌≡◌, ◌<◌, ◌≤◌, ℕ, List, Ok
 ghost use Rattle.std.specs.List.{AllByRecursion, list_all};
 ghost use Rattle.table_schema.specs.SentBy.{sent_of};
 ghost use Rattle.table_schema.specs.Writes.{HasField, HasReadKey};
+ghost use Rattle.swss_script.specs.Generated.{drawn, next_state};
 ghost use Rattle.swss_script.specs.Lines.{lines_in};
 ghost use Rattle.swss_script.specs.Plain.{has_batch};
 ghost use Rattle.swss_script.specs.Script.{script_of};
@@ -20,8 +21,8 @@ pub fn script_has_the_writes_of_its_lines()
     ensures each { (bytes : List ℕ) (script : Script) (round producer : ℕ) → script_of bytes ≡ Ok script → 0 < producer → producer ≤ length script.producers → sections_of script round producer ≡ writes_of round (producer_name script.producers producer) (text_writes bytes) }
 {}
 
-/// A script that is accepted has the forms of this stage alone: no image, and only shows that the service has. Each failing call
-/// is named once. Each of its sections is of one of its producers, at most 4, and it has at least one round.
+/// A script that is accepted has the forms of this stage alone, so no image. Each failing call is named once. Each of its
+/// sections is of one of its producers, at most 4, and it has at least one round.
 pub fn script_is_of_this_stage()
     ensures { (bytes : List ℕ) (script : Script) → script_of bytes ≡ Ok script → IsOfStage script }
 {}
@@ -48,4 +49,9 @@ pub fn each_set_has_a_field()
 /// each address and each length is one of its family. The written form of each key reads as the key again.
 pub fn each_key_was_read()
     ensures { (bytes : List ℕ) (script : Script) → script_of bytes ≡ Ok script → AllByRecursion (λ p. HasReadKey p.write) (script_writes script) }
+{}
+
+/// The first number that a script is made by, where the seed is 7.
+pub fn seed_seven_gives_its_first_number()
+    ensures { drawn (next_state 7) ≡ 1059165278 }
 {}

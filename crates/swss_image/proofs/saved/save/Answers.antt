@@ -12,5 +12,5 @@ returns-clause-text c =
 pub returns-clause-loads : goal.returns-clause-loads
 returns-clause-loads c =
     if_ok-both c.write_image.result
-    (λ bytes utf8 back fields. written-back c.args.rows.now (view c.in_ok-image.image) bytes.items c.in_ok-image.ensures.value utf8 back c.requires.proper fields c.in_ok-image.ensures.named c.in_ok-image.ensures.rising)
+    (λ bytes utf8 back whole. written-back c.args.rows.now (view c.in_ok-image.image) bytes.items c.in_ok-image.ensures.value utf8 back whole.0 whole.1 c.in_ok-image.ensures.named c.in_ok-image.ensures.rising)
     c.write_image.ensures.utf8 c.write_image.ensures.reads_back

@@ -1,0 +1,9 @@
+pub mod Named
+pub mod Inverse
+pub mod Numbers
+pub mod Parses
+pub mod Cases
+pub mod Meant
+pub mod Tested
+pub mod Beyond
+pub mod Written
