@@ -161,7 +161,7 @@ class Completion(InFolder):
             program = f'source "{script}"; COMP_WORDS=("$@"); COMP_CWORD=$(($# - 1)); _swss; printf "%s\\n" "${{COMPREPLY[@]}}"'
             return sh("bash", "-c", program, "bash", *line)[1].split()
 
-        self.assertEqual(offers("swss", ""), ["run", "prove"])
+        self.assertEqual(offers("swss", ""), ["run", "view", "load", "prove"])
         self.assertEqual(offers("bin/swss", "r"), ["run"])
         self.assertEqual(offers("swss", "run", ""), ["--workers"])
         self.assertEqual(offers("swss", "run", "--workers", ""), ["1", "2", "3", "4"])
@@ -182,7 +182,7 @@ class Completion(InFolder):
             self.assertEqual((status, told), (0, ""))
             return text.split()
 
-        self.assertEqual(offers("swss", ""), ["run", "prove"])
+        self.assertEqual(offers("swss", ""), ["run", "view", "load", "prove"])
         self.assertEqual(offers("swss", "run", "--"), ["--workers"])
         self.assertEqual(offers("swss", "run", "--workers", ""), ["1", "2", "3", "4"])
         self.assertEqual(offers("swss", "run", "--workers="), ["1", "2", "3", "4"])
@@ -196,7 +196,7 @@ class Completion(InFolder):
             self.assertEqual((status, told), (0, ""))
             return [it.split("\t")[0] for it in text.splitlines()]
 
-        self.assertEqual(sorted(offers("swss ")), ["prove", "run"])
+        self.assertEqual(sorted(offers("swss ")), ["load", "prove", "run", "view"])
         self.assertEqual(offers("swss run --w"), ["--workers"])
         self.assertEqual(offers("swss run --workers "), ["1", "2", "3", "4"])
         self.assertEqual(offers("swss run --workers="), ["--workers=1", "--workers=2", "--workers=3", "--workers=4"])
