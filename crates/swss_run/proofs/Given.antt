@@ -3,6 +3,7 @@ use Rattle.std.proofs.Common.{◌≡◌, ℕ, ◌+◌, List, [], ◌∷◌, ◌+
 use Rattle.std.specs.List.{AllByRecursion}
 use Rattle.table_schema.specs.KeyText.{key_text}
 use Rattle.table_schema.specs.ProperKey.{IsReadKey}
+use Rattle.table_schema.specs.Rows.{Rows}
 use Rattle.table_schema.specs.declared.key.Key.{Key}
 use Rattle.table_schema.specs.declared.write.Sent.{Sent}
 use Rattle.table_schema.specs.declared.write.Write.{Write}
@@ -11,9 +12,11 @@ use Rattle.switch_model.specs.Marks.{written_key}
 use Rattle.machine_laws.specs.Reading.{IsOnSwitch}
 use Rattle.machine_laws.proofs.Switched.{switched-key_of}
 use Rattle.table_schema.specs.Writes.{HasReadKey}
+use Rattle.swss_script.specs.Behind.{row_act, rounds_behind}
 use Rattle.swss_script.specs.Script.{script_of}
 use Rattle.swss_script.specs.Sections.{Placed, acts_of, acts_writes, producer_name, rounds_writes, sections_writes}
 use Rattle.swss_script.specs.Sent.{next_sent, sent_after, sent_in_round, writes_in}
+use Rattle.swss_script.specs.Stage.{AreImageRows}
 use Rattle.swss_script.specs.declared.parts.Act.{Act}
 use Rattle.swss_script.specs.declared.parts.Act.TheVariants as act
 use Rattle.swss_script.specs.declared.parts.Round.{Round}
@@ -62,6 +65,20 @@ read-rounds names number (round ∷ rounds) h =
 
 pub rounds-were_read : (bytes : List ℕ) (script : Script) → script_of bytes ≡ Ok script → AllByRecursion (λ (r : Round). HaveReadKeys (writes_in r.sections)) script.rounds
 rounds-were_read bytes script is = read-rounds script.producers 1 script.rounds (keys-were_read bytes script is)
+
+-- ---- behind an image
+
+abbrev pub HaveReadRounds : List Round → Type 0
+HaveReadRounds rounds = AllByRecursion (λ (r : Round). HaveReadKeys (writes_in r.sections)) rounds
+
+read-rows : (image : Rows) → AreImageRows image → HaveReadKeys (map (λ w. (0, w)) (acts_of (map row_act image)))
+read-rows [] h = tt
+read-rows (row ∷ rows) (first, h) = (first.0, read-rows rows h)
+
+pub read-behind : (image : Rows) (rounds : List Round) → AreImageRows image → HaveReadRounds rounds → HaveReadRounds (rounds_behind image rounds)
+read-behind [] rounds h read = read
+read-behind (row ∷ rows) [] h read = tt
+read-behind (row ∷ rows) (round ∷ rounds) h (first, read) = (read-both (map (λ w. (0, w)) (acts_of (map row_act (row ∷ rows)))) (writes_in round.sections) (read-rows (row ∷ rows) h) first, read)
 
 -- ---- as they are sent
 

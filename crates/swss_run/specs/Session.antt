@@ -14,6 +14,7 @@ use Rattle.restart_laws.specs.Logged.{LoggedService, last_mark}
 use Rattle.round_laws.specs.Awaited.{HasRecorded}
 use Rattle.round_laws.specs.Named.{keys_named}
 use Rattle.round_laws.specs.Sessions.{BeginNoApply}
+use Rattle.swss_script.specs.Behind.{rounds_behind}
 use Rattle.swss_script.specs.declared.parts.Round.{Round}
 use Rattle.swss_script.specs.declared.script.Script.{Script}
 use Rattle.restart_laws.specs.BrokenOff.{AreSteadyOverBreaks}
@@ -108,11 +109,11 @@ pub record IsSession (plan : Ports) (capacities : List ℕ) (rounds : List Round
   pub drained : AreDrained plan capacities [] rans
   pub reported : IsReported ended plan capacities rounds rans since log chip run held held'
 
--- a session of a script: its chip has the script's failing calls, and failed at no more calls than these are
+-- a session of a script: its chip has the script's failing calls, and failed at no more calls than these are; and it is over the script's rounds behind its image: the first writes of the first are the rows of the image, from the sender 0 and in key order
 pub record IsScriptRun (script : Script) (ended : Status) (log : History) (chip : ChipState) (held held' : Option (List ℕ)) : Type 0 where
   pub fails : chip.fails ≡ map chip_fail script.fails
   pub faults : chip.faults ≤ length chip.fails
-  pub session : IsSession script.plan script.caps.0 script.rounds ended log chip held held'
+  pub session : IsSession script.plan script.caps.0 (rounds_behind script.image script.rounds) ended log chip held held'
 
 -- a run that got to its script: a session, or none where memory was refused before its chip stood
 abbrev pub IsRunBy : Script → Status → History → Option ChipState → Option (List ℕ) → Option (List ℕ) → Type 0

@@ -6,6 +6,7 @@ ghost use Rattle.swss_types.specs.Outside.{HasRisen};
 ghost use Rattle.table_schema.specs.Plan.{IsPlan};
 ghost use Rattle.swss_script.specs.Generated.{generated};
 ghost use Rattle.swss_script.specs.Sent.{writes_in};
+ghost use Rattle.swss_script.specs.Stage.{AreImageRows};
 ghost use Rattle.swss_service.specs.Taking.{HaveReadKeys};
 ghost use Rattle.swss_words.specs.Laws.{IsProper};
 ghost use Rattle.swss_run.specs.Input.{GaveFew};
@@ -22,9 +23,10 @@ use crate::{Outcome, Status};
 use sai_chip::{Fail, SimChip};
 use sai_types::Chip;
 use std::alloc::Global;
+use std::mem::drop;
 use std::sync::Wait;
 use std::thread::Threads;
-use swss_script::{Fails, Script, generate};
+use swss_script::{Fails, Script, generate, rounds_behind};
 use swss_service::Locked;
 use swss_types::{Gate, OutOfMemory, Sink, Source};
 use swss_words::Command;
@@ -58,8 +60,9 @@ pub fn swss_main<R: Threads + Wait + Sync, S: Source, K: Sink, G: Gate + Sync>(
     // On wrong words, a refused script and a fault of reading no session begins and nothing is written.
     //
     // Else the session of `run` is that of the script that the source gave, and that of `load` is that of the generated
-    // script, and nothing is read: every chip call was legal, and outside applies they are few by the writes taken and the
-    // keys listed; every mark is true; the writes taken are the script's, round by round, in order and each once, the ends
+    // script, and nothing is read. The rows of the script's image are the first writes that are taken, from the sender 0, numbered
+    // from 0 in key order, and the rounds follow, the first right behind them. Of it all: every chip call was legal, and outside applies they are few by the writes taken and the
+    // keys listed; every mark is true; the writes taken are those of the image and of the script, round by round, in order and each once, the ends
     // of the rounds rise, the log is full exactly where an event needs more places than are left, and the sink took the
     // report as the status says. The chip has the script's failing calls and failed at no more than these, so a chip fault
     // comes only where the script has one.
@@ -140,6 +143,7 @@ fn run_generated<K: Sink>(alloc: Global, count: u64, seed: u64, sink: &mut K) ->
 /// Runs a script on a new chip, and writes its report.
 fn run_script<K: Sink>(alloc: Global, script: Script, sink: &mut K) -> Outcome
     requires plan { IsPlan script.plan }
+    requires image { AreImageRows script.image }
     requires read { AllByRecursion (λ r. HaveReadKeys (writes_in r.sections)) script.rounds }
     ensures ran { ends_early result.status ≡ false }
     ensures write_fault { result.status ≡ Status.WriteFault → HasRisen (K.faults sink.old) (K.faults sink.new) }
@@ -149,12 +153,17 @@ fn run_script<K: Sink>(alloc: Global, script: Script, sink: &mut K) -> Outcome
         plan,
         caps,
         fails,
+        image,
         rounds,
         ..
     } = script;
     let Ok(fails) = chip_fails(alloc, &fails) else {
         return Outcome::without_session(alloc, Status::OutOfMemory);
     };
+    let Ok(rounds) = rounds_behind(alloc, &image, rounds) else {
+        return Outcome::without_session(alloc, Status::OutOfMemory);
+    };
+    drop(image);
     let chip = SimChip::new(alloc, caps, fails);
     let locked = Locked::begin(alloc, plan, caps, LOG_LIMIT, chip);
     let Left { core, chip, status } = run_rounds(alloc, locked, rounds, sink);

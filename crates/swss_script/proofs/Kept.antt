@@ -10,29 +10,30 @@ use Rattle.swss_script.specs.declared.line.Line.{Line}
 use Rattle.swss_script.specs.declared.line.Line.TheVariants.{Batch}
 use Rattle.swss_script.specs.declared.refused.Why.{Why}
 use Rattle.swss_script.specs.declared.script.Script.{Script}
+use Rattle.swss_script.proofs.ImageRows.{HasReadImage, line-read}
 use Rattle.swss_script.proofs.PlacedWrites.{accepted, same-script, steps-if}
 use Rattle.swss_script.proofs.Steps.{same-ok}
 
-module _ (P : Draft → Type 0) (by_line : (d e : Draft) (line : Line) → is_built line ≡ true → draft_with_line d line ≡ Ok e → P d → P e) (in_lines : (d : Draft) (block : Bool) → P d → P (record d { block = block })) where
-  kept-built : (d e : Draft) (line : Line) (built : Bool) → is_built line ≡ built → (answer : Result Draft Why) → draft_with_line d line ≡ answer → if_built built answer ≡ Ok e → P d → P e
-  kept-built d e line true built answer with h holds = by_line d e line built (with ∙ h) holds
-  kept-built d e line false built (Ok other) with h holds = cc
-  kept-built d e line false built (Err reason) with h holds = cc
+module _ (P : Draft → Type 0) (by_line : (d e : Draft) (line : Line) → HasReadImage line → draft_with_line d line ≡ Ok e → P d → P e) (in_lines : (d : Draft) (block : Bool) → P d → P (record d { block = block })) where
+  kept-built : (d e : Draft) (line : Line) (built : Bool) → HasReadImage line → (answer : Result Draft Why) → draft_with_line d line ≡ answer → if_built built answer ≡ Ok e → P d → P e
+  kept-built d e line true read answer with h holds = by_line d e line read (with ∙ h) holds
+  kept-built d e line false read (Ok other) with h holds = cc
+  kept-built d e line false read (Err reason) with h holds = cc
 
-  kept-add : (d e : Draft) (line : Line) → add d line ≡ Ok e → P d → P e
-  kept-add d e line h holds = kept-built d e line (is_built line) refl (draft_with_line d line) refl h holds
+  kept-add : (d e : Draft) (line : Line) → HasReadImage line → add d line ≡ Ok e → P d → P e
+  kept-add d e line read h holds = kept-built d e line (is_built line) read (draft_with_line d line) refl h holds
 
   kept-block : (e : Draft) (answer : Result Draft Why) → ((f : Draft) → answer ≡ Ok f → P f) → in_block answer ≡ Ok e → P e
   kept-block e (Ok f) holds h = subst P (same-ok (record f { block = true }) e h) (in_lines f true (holds f refl))
   kept-block e (Err reason) holds h = cc
 
-  kept-with : (d e : Draft) (line : Line) (rest : List (List ℕ)) (block : Bool) → cond block (with_block d rest) (add d line) ≡ Ok e → P d → P e
-  kept-with d e line rest true h holds = kept-block e (add d (Batch (option_and_then batch_of (block_of rest)))) (λ f is. kept-add d f (Batch (option_and_then batch_of (block_of rest))) is holds) h
-  kept-with d e line rest false h holds = kept-add d e line h holds
+  kept-with : (d e : Draft) (line : Line) (rest : List (List ℕ)) (block : Bool) → HasReadImage line → cond block (with_block d rest) (add d line) ≡ Ok e → P d → P e
+  kept-with d e line rest true read h holds = kept-block e (add d (Batch (option_and_then batch_of (block_of rest)))) (λ f is. kept-add d f (Batch (option_and_then batch_of (block_of rest))) tt is holds) h
+  kept-with d e line rest false read h holds = kept-add d e line read h holds
 
   kept-text : (d e : Draft) (text : Option (List ℕ)) (rest : List (List ℕ)) → with_text d text rest ≡ Ok e → P d → P e
   kept-text d e None rest h holds = cc
-  kept-text d e (Some text) rest h holds = kept-with d e (script_line_of text) rest (is_block (script_line_of text)) h holds
+  kept-text d e (Some text) rest h holds = kept-with d e (script_line_of text) rest (is_block (script_line_of text)) (line-read text) h holds
 
   kept-inside : (d e : Draft) (bytes : List ℕ) (rest : List (List ℕ)) (block : Bool) → cond block (Ok (record d { block = not (is_end bytes) })) (with_text d (text_of bytes) rest) ≡ Ok e → P d → P e
   kept-inside d e bytes rest true h holds = subst P (same-ok (record d { block = not (is_end bytes) }) e h) (in_lines d (not (is_end bytes)) holds)

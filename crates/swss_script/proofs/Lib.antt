@@ -2,12 +2,14 @@ pub mod Batches
 pub mod Blanks
 pub mod Eaches
 pub mod FewWrites
+pub mod ImageRows
 pub mod Kept
 pub mod LinesIn
 pub mod MadeKeys
 pub mod MadePorts
 pub mod MadeTexts
 pub mod Numbered
+pub mod SentFirst
 pub mod PlacedWrites
 pub mod SentOrder
 pub mod EachWrite

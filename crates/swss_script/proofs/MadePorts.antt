@@ -132,7 +132,7 @@ IsPlan-made = plan-before 64 (omega arith)
 pub stage-made : (n seed : ℕ) → IsOfStage (generated n seed)
 stage-made n seed = record {
   fails = tt;
-  image = refl;
+  image = tt;
   plan = IsPlan-made;
   producers = omega arith;
   several = omega arith;

@@ -184,7 +184,7 @@ none-distinct i j i_in j_in same = absurd (omega (arith, i_in))
 -- the producers of an accepted script have names of their own, and its sections are of these producers
 pub numbered-script : (bytes : List ℕ) (script : Script) → script_of bytes ≡ Ok script → IsNumberedScript script
 numbered-script bytes script h =
-    kept-script IsNumbered (λ d e line built is n. numbered-line d e line is n) (λ d block n. record { names = n.names; place = n.place; sections = n.sections; rounds = n.rounds }) IsNumberedScript (λ d n. numbered-at d.place d refl n) bytes script (record { names = none-distinct; place = tt; sections = tt; rounds = tt }) h
+    kept-script IsNumbered (λ d e line read is n. numbered-line d e line is n) (λ d block n. record { names = n.names; place = n.place; sections = n.sections; rounds = n.rounds }) IsNumberedScript (λ d n. numbered-at d.place d refl n) bytes script (record { names = none-distinct; place = tt; sections = tt; rounds = tt }) h
 
 -- ---- the writes of a producer in a round
 

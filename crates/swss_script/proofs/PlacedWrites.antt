@@ -9,13 +9,15 @@ use Rattle.std.specs.List.{position, position_or_len}
 use Rattle.std.specs.Str.{is_utf8}
 use Rattle.std.proofs.lemmas.Option.{cond_some}
 use Rattle.table_schema.specs.Plan.{Ports, plan_step}
+use Rattle.table_schema.specs.Rows.{Rows}
 use Rattle.table_schema.specs.declared.plan.PlanWhy.{PlanWhy}
 use Rattle.table_schema.specs.declared.write.Write.{Write}
 use Rattle.swss_script.specs.Batch.{batch_of}
 use Rattle.swss_script.specs.Built.{is_built}
 use Rattle.swss_script.specs.Line.{is_block, script_line_of}
 use Rattle.swss_script.specs.Lines.{block_of, is_end, is_too_long, line_text, lines_in, text_of}
-use Rattle.swss_script.specs.Script.{add, new_draft, ended_in, if_built, in_block, in_head, in_section, producer_named, draft_round_ended, script_at, script_from, script_of, section_begun, round_settled, shown_in, step, draft_step, with_block, with_head, draft_with_line, with_plan, with_text}
+use Rattle.swss_image.specs.declared.fault.ImageFault.{ImageFault}
+use Rattle.swss_script.specs.Script.{add, new_draft, ended_in, if_built, image_set, in_block, in_head, in_section, producer_named, draft_round_ended, script_at, script_from, script_of, section_begun, round_settled, shown_in, step, draft_step, with_block, with_head, draft_with_line, with_plan, with_text}
 use Rattle.swss_script.specs.Sections.{Placed, placed, acts_writes, producer_name, sections_writes, rounds_writes, script_writes, whole_line, told, line_writes, round_behind, name_behind, lines_writes, text_writes}
 use Rattle.swss_script.specs.declared.draft.Draft.{Draft}
 use Rattle.swss_script.specs.declared.draft.Place.{Place}
@@ -179,12 +181,16 @@ still-if : (twice : Bool) (reason : Why) (d middle e : Draft) → IsStill d midd
 still-if true reason d middle e still h = cc
 still-if false reason d middle e still h = still-to d middle e still (same-ok _ _ h)
 
+still-image : (d e : Draft) (image : Result Rows ImageFault) (twice : Bool) → cond twice (Err why.HeadTwice) (image_set d image) ≡ Ok e → IsStill d e
+still-image d e image true h = cc
+still-image d e (Ok rows) false h = still-to d _ e (record { place = refl; block = refl; rounds = refl; sections = refl; acts = refl }) (same-ok _ _ h)
+still-image d e (Err fault) false h = cc
+
 still-head : (d e : Draft) (line : HeadLine) → with_head d line ≡ Ok e → IsStill d e
 still-head d e (head.Port text) h = still-plan d e (plan_step d.script.plan text) h
 still-head d e (head.Chip kind most) h = still-if _ _ d _ e (record { place = refl; block = refl; rounds = refl; sections = refl; acts = refl }) h
 still-head d e (head.Fail fail) h = still-if _ _ d _ e (record { place = refl; block = refl; rounds = refl; sections = refl; acts = refl }) h
-still-head d e (head.Image (Ok rows)) h = still-to d _ e (record { place = refl; block = refl; rounds = refl; sections = refl; acts = refl }) (same-ok _ _ h)
-still-head d e (head.Image (Err fault)) h = cc
+still-head d e (head.Image image) h = still-image d e image d.image h
 
 pub still-in_head : (p : Place) (d e : Draft) (line : Option HeadLine) → in_head p d line ≡ Ok e → IsStill d e
 still-in_head place.Head d e (Some line) h = still-head d e line h

@@ -4,13 +4,14 @@ use Rattle.std.proofs.lemmas.Bool.{eqb-false, ltb-true, ne_eqb, or_parts}
 use Rattle.std.proofs.lemmas.List.Folds.{list_any-append}
 use Rattle.std.specs.List.{list_any, position}
 use Rattle.table_schema.specs.Plan.{IsPlan, Ports, plan_step}
+use Rattle.table_schema.specs.Rows.{Rows}
 use Rattle.table_schema.specs.declared.plan.PlanWhy.{PlanWhy}
 use Rattle.table_schema.proofs.Plans.{IsPlan-none, IsPlan-plan_step}
 use Rattle.sai_types.specs.Objects.{level}
 use Rattle.sai_types.specs.declared.kind.Kind.{Kind}
-use Rattle.swss_script.specs.Built.{is_built}
-use Rattle.swss_script.specs.Script.{new_draft, ended_in, in_head, in_section, producer_named, draft_round_ended, script_at, script_of, section_begun, round_settled, shown_in, with_capacity, with_fail, draft_with_line, with_plan}
-use Rattle.swss_script.specs.Stage.{IsOfStage, NameEachOnce}
+use Rattle.swss_image.specs.declared.fault.ImageFault.{ImageFault}
+use Rattle.swss_script.specs.Script.{new_draft, ended_in, in_head, in_section, producer_named, draft_round_ended, script_at, script_of, section_begun, round_settled, shown_in, with_capacity, with_fail, with_image, draft_with_line, with_plan}
+use Rattle.swss_script.specs.Stage.{AreImageRows, IsOfStage, NameEachOnce}
 use Rattle.swss_script.specs.declared.draft.Draft.{Draft}
 use Rattle.swss_script.specs.declared.draft.Place.{Place}
 use Rattle.swss_script.specs.declared.draft.Place.TheVariants as place
@@ -24,6 +25,7 @@ use Rattle.swss_script.specs.declared.parts.Fail2.{Fail2}
 use Rattle.swss_script.specs.declared.parts.Show.{Show}
 use Rattle.swss_script.specs.declared.refused.Why.TheVariants as why
 use Rattle.swss_script.specs.declared.script.Script.{Script}
+use Rattle.swss_script.proofs.ImageRows.{HasReadImage}
 use Rattle.swss_script.proofs.Kept.{kept-script}
 use Rattle.swss_script.proofs.Numbered.{numbered-script}
 use Rattle.swss_script.proofs.Steps.{same-ok, with_producer}
@@ -31,7 +33,7 @@ use Rattle.swss_script.proofs.Steps.{same-ok, with_producer}
 -- the script of a draft, with the rounds that ended
 record IsBuiltScript (script : Script) : Type 0 where
   fails : NameEachOnce script.fails
-  image : script.image ≡ []
+  image : AreImageRows script.image
   plan : IsPlan script.plan
   producers : length script.producers ≤ 4
 
@@ -86,14 +88,30 @@ staged-fail d e fail k h = by (list_any (λ other. other.at == fail.at) d.script
     by true is k = cc
     by false is k = subst IsStaged (same-ok more e k) (record { fails = once-last d.script.fails fail is h.fails; image = h.image; plan = h.plan; producers = h.producers })
 
-staged-head : (p : Place) (d e : Draft) (line : Option HeadLine) → is_built (Head line) ≡ true → in_head p d line ≡ Ok e → IsStaged d → IsStaged e
-staged-head place.Head d e (Some (head.Port text)) built k h = staged-plan d e text (plan_step d.script.plan text) refl k h
-staged-head place.Head d e (Some (head.Chip kind most)) built k h = staged-capacity d e kind most k h
-staged-head place.Head d e (Some (head.Fail fail)) built k h = staged-fail d e fail k h
-staged-head place.Head d e (Some (head.Image fault)) built k h = cc
-staged-head place.Head d e None built k h = cc
-staged-head (place.Section producer) d e line built k h = cc
-staged-head place.Settled d e line built k h = cc
+-- the image of the head
+staged-image : (d e : Draft) (image : Result Rows ImageFault) → HasReadImage (Head (Some (head.Image image))) → with_image d image ≡ Ok e → IsStaged d → IsStaged e
+staged-image d e (Ok rows) read k h = by d.image k
+  where
+    set : Draft
+    set = record d { script = record d.script { image = rows }; image = true }
+
+    by : (twice : Bool) → (if twice then Err why.HeadTwice else Ok set) ≡ Ok e → IsStaged e
+    by true k = cc
+    by false k = subst IsStaged (same-ok set e k) (record { fails = h.fails; image = read; plan = h.plan; producers = h.producers })
+staged-image d e (Err fault) read k h = by d.image k
+  where
+    by : (twice : Bool) → (if twice then Err why.HeadTwice else Err (why.BadImage fault)) ≡ Ok e → IsStaged e
+    by true k = cc
+    by false k = cc
+
+staged-head : (p : Place) (d e : Draft) (line : Option HeadLine) → HasReadImage (Head line) → in_head p d line ≡ Ok e → IsStaged d → IsStaged e
+staged-head place.Head d e (Some (head.Port text)) read k h = staged-plan d e text (plan_step d.script.plan text) refl k h
+staged-head place.Head d e (Some (head.Chip kind most)) read k h = staged-capacity d e kind most k h
+staged-head place.Head d e (Some (head.Fail fail)) read k h = staged-fail d e fail k h
+staged-head place.Head d e (Some (head.Image image)) read k h = staged-image d e image read k h
+staged-head place.Head d e None read k h = cc
+staged-head (place.Section producer) d e line read k h = cc
+staged-head place.Settled d e line read k h = cc
 
 staged-acts : (p : Place) (d e : Draft) (acts : List Act) → in_section p d acts ≡ Ok e → IsStaged d → IsStaged e
 staged-acts (place.Section producer) d e acts k h = subst IsStaged (same-ok (record d { acts = d.acts ++ acts }) e k) h
@@ -119,18 +137,18 @@ staged-named : (d e : Draft) (name : List ℕ) (at : Option ℕ) → producer_na
 staged-named d e name (Some at) k h = subst IsStaged (same-ok _ _ k) (staged-ended d.place (place.Section (at + 1)) d h)
 staged-named d e name None k h = staged-first d e name (nat_lt (length d.script.producers) 4) refl k h
 
-staged-line : (d e : Draft) (line : Line) → is_built line ≡ true → draft_with_line d line ≡ Ok e → IsStaged d → IsStaged e
-staged-line d e Blank built k h = subst IsStaged (same-ok _ _ k) h
-staged-line d e (Head line) built k h = staged-head d.place d e line built k h
-staged-line d e (Producer name) built k h = staged-named d e name (position (bytes_eq name) d.script.producers) k h
-staged-line d e (Put write) built k h = staged-acts d.place d e (act.Write write ∷ []) k h
-staged-line d e (Batch (Some writes)) built k h = staged-acts d.place d e (map act.Write writes) k h
-staged-line d e (Batch None) built k h = cc
-staged-line d e Block built k h = cc
-staged-line d e Restart built k h = staged-acts d.place d e (act.Restart ∷ []) k h
-staged-line d e Settle built k h = subst IsStaged (same-ok _ _ k) (staged-ended d.place place.Settled d h)
-staged-line d e (Shown what) built k h = staged-shown d.place d e what k h
-staged-line d e Other built k h = cc
+staged-line : (d e : Draft) (line : Line) → HasReadImage line → draft_with_line d line ≡ Ok e → IsStaged d → IsStaged e
+staged-line d e Blank read k h = subst IsStaged (same-ok _ _ k) h
+staged-line d e (Head line) read k h = staged-head d.place d e line read k h
+staged-line d e (Producer name) read k h = staged-named d e name (position (bytes_eq name) d.script.producers) k h
+staged-line d e (Put write) read k h = staged-acts d.place d e (act.Write write ∷ []) k h
+staged-line d e (Batch (Some writes)) read k h = staged-acts d.place d e (map act.Write writes) k h
+staged-line d e (Batch None) read k h = cc
+staged-line d e Block read k h = cc
+staged-line d e Restart read k h = staged-acts d.place d e (act.Restart ∷ []) k h
+staged-line d e Settle read k h = subst IsStaged (same-ok _ _ k) (staged-ended d.place place.Settled d h)
+staged-line d e (Shown what) read k h = staged-shown d.place d e what k h
+staged-line d e Other read k h = cc
 
 -- ---- scripts
 
@@ -148,7 +166,7 @@ done-at (place.Section producer) d is h = done-round (round_settled d) (staged-e
 
 done-script : (bytes : List ℕ) (script : Script) → script_of bytes ≡ Ok script → IsDone script
 done-script bytes script h =
-    let empty : IsBuiltScript new_draft.script = record { fails = tt; image = refl; plan = IsPlan-none; producers = omega arith } in
+    let empty : IsBuiltScript new_draft.script = record { fails = tt; image = tt; plan = IsPlan-none; producers = omega arith } in
     kept-script IsStaged staged-line (λ d block s. s) IsDone (λ d s. done-at d.place d refl s) bytes script empty h
 
 -- what an accepted script of this stage has

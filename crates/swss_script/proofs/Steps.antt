@@ -3,12 +3,14 @@ use Rattle.std.proofs.Common.{◌≡◌, ℕ, ◌+◌, ◌<◌, ◌≤◌, nat_l
 use Rattle.std.proofs.lemmas.Bool.{ltb-true, ltb-false}
 use Rattle.std.specs.List.{position}
 use Rattle.table_schema.specs.Plan.{Ports, plan_step}
+use Rattle.table_schema.specs.Rows.{Rows}
 use Rattle.table_schema.specs.declared.plan.PlanWhy.{PlanWhy}
 use Rattle.swss_script.specs.Batch.{batch_of}
 use Rattle.swss_script.specs.Built.{is_built}
 use Rattle.swss_script.specs.Line.{is_block, script_line_of}
 use Rattle.swss_script.specs.Lines.{block_of, is_end, is_too_long, line_text, text_of}
-use Rattle.swss_script.specs.Script.{add, ended_in, if_built, in_block, in_head, in_section, producer_named, section_begun, round_settled, shown_in, step, draft_step, with_block, with_head, draft_with_line, with_plan, with_text}
+use Rattle.swss_image.specs.declared.fault.ImageFault.{ImageFault}
+use Rattle.swss_script.specs.Script.{add, ended_in, if_built, image_set, in_block, in_head, in_section, producer_named, section_begun, round_settled, shown_in, step, draft_step, with_block, with_head, draft_with_line, with_plan, with_text}
 use Rattle.swss_script.specs.declared.draft.Draft.{Draft}
 use Rattle.swss_script.specs.declared.draft.Place.{Place}
 use Rattle.swss_script.specs.declared.draft.Place.TheVariants as place
@@ -51,12 +53,16 @@ kept-if : (twice : Bool) (reason : Why) (d middle d' : Draft) → AreKept d midd
 kept-if true reason d middle d' same h = cc
 kept-if false reason d middle d' same h = kept-to d middle d' same cc
 
+kept-image : (d d' : Draft) (image : Result Rows ImageFault) (twice : Bool) → cond twice (Err why.HeadTwice) (image_set d image) ≡ Ok d' → AreKept d d'
+kept-image d d' image true h = cc
+kept-image d d' (Ok rows) false h = kept-to d _ d' refl (same-ok _ _ h)
+kept-image d d' (Err fault) false h = cc
+
 kept-head : (d d' : Draft) (line : HeadLine) → with_head d line ≡ Ok d' → AreKept d d'
 kept-head d d' (head.Port text) h = kept-plan d d' (plan_step d.script.plan text) h
 kept-head d d' (head.Chip kind most) h = kept-if _ _ d _ d' refl h
 kept-head d d' (head.Fail fail) h = kept-if _ _ d _ d' refl h
-kept-head d d' (head.Image (Ok rows)) h = kept-to d _ d' refl (same-ok _ _ h)
-kept-head d d' (head.Image (Err fault)) h = cc
+kept-head d d' (head.Image image) h = kept-image d d' image d.image h
 
 pub kept-in_head : (p : Place) (d d' : Draft) (line : Option HeadLine) → in_head p d line ≡ Ok d' → AreKept d d'
 kept-in_head place.Head d d' (Some line) h = kept-head d d' line h

@@ -5,6 +5,7 @@ pub mod Fields
 pub mod Generated
 pub mod Line
 pub mod Lines
+pub mod Behind
 pub mod Plain
 pub mod Script
 pub mod Sections

@@ -83,12 +83,15 @@ with_fail d fail =
     else Ok (record d { script = record d.script { fails = d.script.fails ++ fail ∷ [] } })
 
 -- the rows that the service begins with
-abbrev pub with_image : Draft → Result Rows ImageFault → Result Draft Why
-with_image d (Ok rows) = Ok (record d { script = record d.script { image = rows } })
-with_image d (Err fault) = Err (why.BadImage fault)
+abbrev pub image_set : Draft → Result Rows ImageFault → Result Draft Why
+image_set d (Ok rows) = Ok (record d { script = record d.script { image = rows }; image = true })
+image_set d (Err fault) = Err (why.BadImage fault)
 
--- a line of the head. Before the service has images a good one is refused as the last thing: so no line is read behind it, and the
--- second image of a script, which is one too many before its JSON is read, cannot be met
+-- a second image is one too many, whatever its JSON is
+abbrev pub with_image : Draft → Result Rows ImageFault → Result Draft Why
+with_image d image = if d.image then Err why.HeadTwice else image_set d image
+
+-- a line of the head
 abbrev pub with_head : Draft → HeadLine → Result Draft Why
 with_head d (head.Port text) = with_plan d (plan_step d.script.plan text)
 with_head d (head.Chip kind most) = with_capacity d kind most
@@ -175,6 +178,7 @@ abbrev pub new_draft : Draft
 new_draft = record {
   script = record { plan = []; caps = default_caps; fails = []; image = []; producers = []; rounds = [] };
   kinds = false ∷ false ∷ false ∷ false ∷ false ∷ false ∷ false ∷ false ∷ false ∷ false ∷ false ∷ false ∷ [];
+  image = false;
   place = place.Head;
   sections = [];
   acts = [];

@@ -45,6 +45,8 @@ pub struct Draft {
     pub script: Script,
     /// Of each kind, whether the head set its capacity.
     pub kinds: [bool; KINDS],
+    /// Whether the head set the image.
+    pub image: bool,
     /// The place of the next line.
     pub place: Place,
     /// The sections of the round that did not end, but for one that did not end.
@@ -72,6 +74,7 @@ impl Draft {
                 rounds: RoundList::new(alloc),
             },
             kinds: [false; KINDS],
+            image: false,
             place: Place::Head,
             sections: Sections::new(alloc),
             acts: Acts::new(alloc),
@@ -165,8 +168,12 @@ impl Draft {
     fn set_image(&mut self, image: Result<Rows, ImageFault>) -> Result<(), Why>
         ensures { Becomes (with_image self.old image) result self.new }
     {
+        if self.image {
+            return Err(Why::HeadTwice);
+        }
         match image {
             Ok(rows) => {
+                self.image = true;
                 drop(mem::replace(&mut self.script.image, rows));
                 Ok(())
             }

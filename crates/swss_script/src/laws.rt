@@ -1,15 +1,17 @@
 // What an accepted script is by its lines.
-ghost use Rattle.std.specs.Prelude.{◌≡◌, ◌<◌, ◌≤◌, ℕ, List, Ok, Some, false, length, slice_get, true};
+ghost use Rattle.std.specs.Prelude.{◌≡◌, ◌<◌, ◌≤◌, ◌∷◌, ◌++◌, ℕ, List, Ok, Some, false, length, slice_get, true};
 ghost use Rattle.std.specs.List.{AllByRecursion, list_all};
+ghost use Rattle.table_schema.specs.Rows.{Rows};
 ghost use Rattle.table_schema.specs.SentBy.{sent_of};
 ghost use Rattle.table_schema.specs.Writes.{HasField, HasReadKey};
 ghost use Rattle.swss_script.specs.Generated.{drawn, next_state};
 ghost use Rattle.swss_script.specs.Lines.{lines_in};
+ghost use Rattle.swss_script.specs.Behind.{image_sent, rounds_behind};
 ghost use Rattle.swss_script.specs.Plain.{has_batch};
 ghost use Rattle.swss_script.specs.Script.{script_of};
 ghost use Rattle.swss_script.specs.Sections.{producer_name, script_writes, sections_by, sections_of, text_writes, writes_of};
 ghost use Rattle.swss_script.specs.Sent.{has_section, sent_by, sent_in_round};
-ghost use Rattle.swss_script.specs.Stage.{IsOfStage};
+ghost use Rattle.swss_script.specs.Stage.{AreOfProducers, IsOfStage};
 ghost use Rattle.swss_script.specs.declared.parts.Round.{Round};
 ghost use Rattle.swss_script.specs.declared.script.Script.{Script};
 ghost use Rattle.swss_script.specs.declared.script.TheConstants.{MOST_LINES};
@@ -21,8 +23,8 @@ pub fn script_has_the_writes_of_its_lines()
     ensures each { (bytes : List ℕ) (script : Script) (round producer : ℕ) → script_of bytes ≡ Ok script → 0 < producer → producer ≤ length script.producers → sections_of script round producer ≡ writes_of round (producer_name script.producers producer) (text_writes bytes) }
 {}
 
-/// A script that is accepted has the forms of this stage alone, so no image. Each failing call is named once. Each of its
-/// sections is of one of its producers, at most 4, and it has at least one round.
+/// In a script that is accepted each failing call is named once, each row of the image has a key that was read and a field, each
+/// section is of one of its producers, at most 4, and there is at least one round.
 pub fn script_is_of_this_stage()
     ensures { (bytes : List ℕ) (script : Script) → script_of bytes ≡ Ok script → IsOfStage script }
 {}
@@ -31,6 +33,12 @@ pub fn script_is_of_this_stage()
 pub fn each_producer_sends_in_order()
     ensures order { (round : Round) (producer : ℕ) → sent_of producer (sent_in_round round) ≡ sent_by producer 0 (sections_by producer round.sections) }
     ensures senders { (round : Round) → list_all (λ s. has_section round.sections s.from) (sent_in_round round) ≡ true }
+{}
+
+/// Behind an image the first round of a script sends the rows of the image, by the sender 0, numbered from 0 in key order, and then
+/// exactly what it sends without an image; and the later rounds stay.
+pub fn image_is_sent_first()
+    ensures { (image : Rows) (round : Round) (rounds : List Round) (count : ℕ) → AreOfProducers count round.sections → (opened : Round) × (rounds_behind image (round ∷ rounds) ≡ opened ∷ rounds) × (sent_in_round opened ≡ image_sent image ++ sent_in_round round) }
 {}
 
 /// A script that is accepted has at most `MOST_LINES` lines, and where none of them is a batch, each of its rounds has no more

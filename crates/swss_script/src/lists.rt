@@ -1,5 +1,6 @@
 // The lists of a script.
 ghost use Rattle.std.specs.Prelude.{◌≡◌, [], ◌∷◌, ◌++◌, IfOk, OnOk, OnErr, map};
+ghost use Rattle.swss_script.specs.Behind.{opened_with};
 ghost use Rattle.swss_script.specs.declared.parts.Act.TheVariants as act;
 
 use crate::copies::copy_each;
@@ -93,6 +94,16 @@ impl RoundList {
         Ok(())
     }
 
+    /// Puts a section before those of the first round, where there is one.
+    pub(crate) fn open_with(&mut self, section: Section) -> Result<(), OutOfMemory>
+        ensures { OnOk result (self.new ≡ opened_with section self.old) }
+    {
+        match self.rounds.first_mut() {
+            Some(round) => round.sections.put_first(section),
+            None => Ok(()),
+        }
+    }
+
     /// The rounds.
     pub fn items(&self) -> &[Round]
         ensures { result.now ≡ self.now }
@@ -148,6 +159,14 @@ impl Sections {
         ensures err { OnErr result (self.new ≡ self.old) }
     {
         self.sections.push(section)?;
+        Ok(())
+    }
+
+    /// Puts a section before the others.
+    pub(crate) fn put_first(&mut self, section: Section) -> Result<(), OutOfMemory>
+        ensures { OnOk result (self.new ≡ section ∷ self.old) }
+    {
+        self.sections.insert(0, section)?;
         Ok(())
     }
 

@@ -6,6 +6,7 @@ use Rattle.swss_run.proofs.run.run_source.Goals as goal
 pub run_script-requires : goal.run_script-requires
 run_script-requires g c = record {
   plan = (stage-of_script c.in-Ok.ensures.read.bytes c.in-Ok.script c.in-Ok.ensures.read.says).plan;
+  image = (stage-of_script c.in-Ok.ensures.read.bytes c.in-Ok.script c.in-Ok.ensures.read.says).image;
   read = rounds-were_read c.in-Ok.ensures.read.bytes c.in-Ok.script c.in-Ok.ensures.read.says;
 }
 
