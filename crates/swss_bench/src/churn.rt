@@ -16,6 +16,7 @@ const ROUTES: u32 = 20_000;
 
 /// The prefix of a route: 256 addresses, from 11.0.0.0 on.
 fn prefix(route: u32) -> Prefix
+    requires { route < 20000 }
     ensures { result ≡ nth_prefix route }
 {
     Prefix {
@@ -82,7 +83,8 @@ fn make_all(view: &mut View, made: &mut Vec<Vid>) -> Result<()>
 
 /// Makes a route.
 fn make(view: &mut View, made: &mut Vec<Vid>, route: u32) -> Result<()>
-    requires { AreRoutesBelow route view.old.objects }
+    requires few { route < 20000 }
+    requires below { AreRoutesBelow route view.old.objects }
     ensures { IfOk result (λ done. AreRoutesBelow (route + 1) view.new.objects) }
 {
     let vid = view.create(Body::Route {

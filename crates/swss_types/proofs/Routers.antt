@@ -29,9 +29,6 @@ vrf_name-refl a = equal_name.laws-law.refl a
 pub vrf_name-symm : (a b : VrfName) → same_vrf_name a b ≡ same_vrf_name b a
 vrf_name-symm a b = equal_name.laws-law.symm a b
 
-pub vrf_total : IsTotalOrder vrf_cmp
-vrf_total = ordered_vrf.total-law
-
 pub vrf-exact : (a b : Vrf) → same_vrf a b ≡ true → a ≡ b
 vrf-exact vrf.Default vrf.Default h = refl
 vrf-exact (vrf.Named m) (vrf.Named n) h = ap vrf.Named (vrf_name-exact m n h)

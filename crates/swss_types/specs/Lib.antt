@@ -16,6 +16,7 @@ pub mod OutsideMemory
 pub mod Packets
 pub mod Parts
 pub mod Prefix
+pub mod PrefixParts
 pub mod Tagging
 pub mod Text
 pub mod Vrf

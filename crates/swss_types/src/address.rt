@@ -9,6 +9,7 @@ ghost use Rattle.swss_types.specs.AddressOrder.{ip_cmp, ip_total, prefix_cmp, pr
 
 use crate::Bits;
 use std::cmp::Ordering;
+use std::marker::Model;
 
 /// The bits of an address of version 4.
 pub const V4_BITS: u8 = 32;
@@ -47,6 +48,19 @@ pub struct Prefix {
 /// An Ethernet address, its six bytes in the order in which they are written.
 #[derive(Clone, Copy, Debug, PartialEq, Eq, PartialOrd, Ord)]
 pub struct Mac(pub [u8; 6]);
+
+impl Model for Prefix {
+    ghost use Rattle.swss_types.specs.Address.{IsProperPrefix};
+    ghost use Rattle.swss_types.specs.PrefixParts.{PrefixParts};
+
+    ghost Value = { PrefixParts };
+
+    ghost view = { λ p. record { ip = p.ip; len = p.len } };
+
+    ghost inverse = { λ p. record { ip = p.ip; len = p.len } };
+
+    ghost invariant = { λ p. IsProperPrefix (record { ip = p.ip; len = p.len }) };
+}
 
 impl Prefix {
     /// Whether the address is of the prefix's family and agrees with it in the prefix's first bits.

@@ -1,11 +1,25 @@
 // The texts of prefixes and of interface addresses.
-ghost use Rattle.std.specs.Prelude.{◌≡◌, ◌≤◌, ◌++◌, length, take, IfSome, OnOk, OnErr};
-ghost use Rattle.swss_types.specs.Address.{width, IsProperPrefix};
+ghost use Rattle.std.specs.Prelude.{◌≡◌, false, true, ◌≤◌, ◌++◌, length, take, IfSome, OnOk, OnErr};
+ghost use Rattle.swss_types.specs.Address.{width, IsPrefixOf, IsProperIp, IsProperPrefix};
 ghost use Rattle.swss_types.specs.Prefix.{prefix_of, interface_address_of, has_host_bits, is_clean, prefix_text, interface_address_text, IsProperInterfaceAddress};
 
-use crate::{Ip, OutOfMemory, Prefix, V6_BITS, cut_at, read_number, write_number};
+use crate::{Family, Ip, OutOfMemory, Prefix, V4_BITS, V6_BITS, cut_at, read_number, write_number};
 
 impl Prefix {
+    /// The prefix of an address's first bits. None where the address is not proper, the length is past its family's
+    /// range, or a bit past the length is set.
+    pub fn new(ip: Ip, len: u8) -> Option<Prefix>
+        ensures { IsPrefixOf ip len result }
+    {
+        if !is_proper(ip) || len > ip.family.width() {
+            return None;
+        }
+        if !is_clean(&ip, len) {
+            return None;
+        }
+        Some(Prefix { ip, len })
+    }
+
     /// The prefix that the text writes: an address, or an address, `/` and a length in its family's range, without bits
     /// past the length. Without `/` the length is that of the address. None where it is no such text.
     pub fn read(text: &[u8]) -> Option<Prefix>
@@ -77,6 +91,17 @@ pub fn has_host_bits(text: &[u8]) -> bool
     match read_interface_address(text) {
         Some((ip, len)) => !is_clean(&ip, len),
         None => false,
+    }
+}
+
+/// Whether the address is proper.
+fn is_proper(ip: Ip) -> bool
+    ensures yes { result ≡ true → IsProperIp ip }
+    ensures no { result ≡ false → IsProperIp ip → ⊥ }
+{
+    match ip.family {
+        Family::V4 => ip.bits.number() < 1 << V4_BITS,
+        Family::V6 => true,
     }
 }
 

@@ -1,8 +1,10 @@
 // Virtual routers, their names, and the packets in them.
 ghost use Rattle.std.specs.Prelude.{◌≡◌, ◌++◌, OnOk, OnErr};
+ghost use Rattle.swss_types.specs.Vrf.{vrf_cmp, vrf_total, vrfs_agree, vrfs_tie};
 ghost use Rattle.swss_types.specs.VrfNames.{are_label_bytes, label_of, vrf_name_of, vrf_name_text, vrf_name_with};
 
 use crate::{Ip, OutOfMemory, cut_at};
+use std::cmp::Ordering;
 
 /// The most bytes behind `Vrf` in a name.
 const LABEL: usize = 12;
@@ -61,13 +63,34 @@ fn are_label_bytes(bytes: &[u8]) -> bool
     bytes.iter().all(|byte| byte.is_ascii_alphanumeric() || *byte == b'_' || *byte == b'-')
 }
 
-/// A virtual router.
-#[derive(Clone, Copy, Debug, PartialEq, Eq, PartialOrd, Ord)]
+/// A virtual router. The default router comes first, and the others by their names.
+#[derive(Clone, Copy, Debug, PartialEq, Eq, PartialOrd)]
 pub enum Vrf {
     /// The router that is always there.
     Default,
     /// A router of this name.
     Named(VrfName),
+}
+
+impl Ord for Vrf {
+    ghost cmp = { vrf_cmp };
+
+    ghost total = { vrf_total };
+
+    ghost matches_partial_cmp = { vrfs_agree };
+
+    ghost matches_eq = { vrfs_tie };
+
+    // A map's search compares with many keys, and most of them are in the default router: so it stands there.
+    #[inline(always)]
+    fn cmp(&self, other: &Vrf) -> Ordering {
+        match (self, other) {
+            (Vrf::Default, Vrf::Default) => Ordering::Equal,
+            (Vrf::Default, Vrf::Named(_)) => Ordering::Less,
+            (Vrf::Named(_), Vrf::Default) => Ordering::Greater,
+            (Vrf::Named(name), Vrf::Named(than)) => name.cmp(than),
+        }
+    }
 }
 
 /// A packet, as far as its way goes.

@@ -267,7 +267,7 @@ impl Drawn {
     /// Puts a route in the router that a lot falls on.
     fn put_route(&mut self, round: u8, number: u8, lot: u64, to: To<Vid>) -> Result<()> {
         let vr = self.router(lot);
-        let prefix = prefix(round, number);
+        let prefix = prefix(round, number).context("a proper prefix")?;
         self.put(Body::Route { vr, prefix, to })?;
         Ok(())
     }
@@ -340,7 +340,7 @@ fn is_first(round: u8, number: u8) -> bool {
 }
 
 /// A prefix of a round, by its number. Most cover another.
-fn prefix(round: u8, number: u8) -> Prefix {
+fn prefix(round: u8, number: u8) -> Option<Prefix> {
     let (ip, len) = match number {
         0 => (address(20, round, 0, 0), 16),
         1 => (address(20, round, 128, 0), 17),
@@ -351,7 +351,7 @@ fn prefix(round: u8, number: u8) -> Prefix {
         6 => (address(20, round & 252, 0, 0), 14),
         _ => (address(0, 0, 0, 0), 0),
     };
-    Prefix { ip, len }
+    Prefix::new(ip, len)
 }
 
 /// An address of the sixth version.

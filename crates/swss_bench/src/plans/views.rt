@@ -77,10 +77,8 @@ fn push_routes(
     for number in 0..routes {
         let place = number.wrapping_add(moved * (number & 1)) as usize;
         let group = groups.get(place % groups.len().max(1)).context("a group")?;
-        let prefix = Prefix {
-            ip: address(number.wrapping_add(0x0014_0000).wrapping_mul(256)),
-            len: 24,
-        };
+        let ip = address(number.wrapping_add(0x0014_0000).wrapping_mul(256));
+        let prefix = Prefix::new(ip, 24).context("a proper prefix")?;
         let to = To::Group(*group);
         push(
             objects,

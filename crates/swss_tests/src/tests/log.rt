@@ -8,7 +8,7 @@ use std::sync::Wait as Waiting;
 use std::thread::Threads;
 use switch_model::{Log, Mark, MarkEvent, PlacedLog, Wait, Waits};
 use swss_service::Rounded;
-use swss_types::{IfName, Open, Tagging};
+use swss_types::{IfName, Open, Tagging, Vrf};
 use table_schema::{Key, Row, Sent, Write};
 
 /// A port whose row is deleted under an interface.
@@ -136,7 +136,11 @@ fn four() -> [Waiter; 4] {
             Some(Row::Member(Tagging::Tagged)),
         ),
         (Key::Vlan(20), Wait::NoRoom(Kind::Vlan), None),
-        (Key::Intf(IfName::Vlan(20)), Wait::Busy(3), Some(Row::Intf)),
+        (
+            Key::Intf(IfName::Vlan(20)),
+            Wait::Busy(3),
+            Some(Row::Intf(Vrf::Default)),
+        ),
     ]
 }
 

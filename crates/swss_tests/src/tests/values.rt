@@ -59,7 +59,7 @@ fn objects_and_things_are_copied(rt: HostRuntime) {
             up: true,
         }),
     );
-    let prefix = Prefix { ip: ten(), len: 32 };
+    let prefix = Prefix::new(ten(), 32).expect(&rt, "a host");
     let hops = hops(&rt, alloc);
     assert!(rt; hops.items() == [hop(0), hop(4)].as_slice(), "in order");
     copy_thing(&rt, &Thing::Route(Vrf::Default, prefix, Goal::Group(hops)));

@@ -8,9 +8,9 @@ use Rattle.swss_bench.proofs.RoutesBelow.{legal, made}
 use Rattle.swss_bench.proofs.churn.make.Goals as goal
 
 pub create-requires : goal.create-requires
-create-requires c = subst (λ p. IsLegalOn c.args.view.now.objects (call.Create (body.Route None p to.Drop))) (sym c.prefix.ensures) (legal c.args.route c.args.view.now.objects c.requires)
+create-requires c = subst (λ p. IsLegalOn c.args.view.now.objects (call.Create (body.Route None p to.Drop))) (sym c.prefix.ensures) (legal c.args.route c.args.view.now.objects c.requires.below)
 
 pub returns : goal.returns
 returns c =
     subst (AreRoutesBelow (c.args.route + 1)) (sym (ap (λ (o : ViewState). o.objects) c.in_ok-vid.ensures.ok ∙ ap (λ p. after_create c.args.view.now.objects c.in_ok-vid.vid (body.Route None p to.Drop)) c.prefix.ensures))
-    (made c.args.route c.args.view.now.objects c.in_ok-vid.vid c.requires)
+    (made c.args.route c.args.view.now.objects c.in_ok-vid.vid c.requires.below)
