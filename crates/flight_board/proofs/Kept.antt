@@ -5,21 +5,33 @@ use Rattle.std.proofs.lemmas.List.{length-set, set-set}
 use Rattle.std.proofs.lemmas.Option.{none-some}
 use Rattle.table_schema.specs.Plan.{Ports}
 use Rattle.table_schema.specs.declared.key.Key.{Key}
-use Rattle.table_schema.specs.declared.row.Row.{Row}
+use Rattle.table_schema.specs.Names.{names_of}
+use Rattle.table_schema.specs.declared.row.Row.{Row as BareRow}
+use Rattle.swss_types.specs.declared.vrf.Vrf.{Vrf}
 use Rattle.sai_types.specs.declared.ids.Vid.{Vid}
+use Rattle.switch_model.specs.Placed.{Placed as Row, router_in}
 use Rattle.row_layout.specs.Operations.{Change, uses_of}
 use Rattle.row_layout.specs.Rows.{Owner}
+use Rattle.switch_machine.proofs.Placing.{bare_placed}
 use Rattle.ref_counts.specs.Registry.{Names}
 use Rattle.orch_flight.specs.Grouping.{GroupOperation}
 use Rattle.orch_flight.specs.Operation.{Operation}
-use Rattle.orch_flight.specs.Starting.{started_by}
+use Rattle.orch_flight.specs.Starting.{in_place, started_by}
 use Rattle.orch_flight.specs.Taking.{IsTook, operation_by}
 use Rattle.registry_laws.specs.Ending.{named_by}
 use Rattle.registry_laws.specs.Flown.{Flown, group_in}
 use Rattle.registry_laws.specs.Making.{TookFor}
-use Rattle.flight_board.specs.Applied.{Entries, HasPlace, KeepsOthers, row_at}
+use Rattle.flight_board.specs.Applied.{Entries, HasPlace, KeepsOthers, placed_at, row_at}
 use Rattle.flight_board.specs.Board.{AreKept, FlightState, HasKeyAt, IsFlightBegun, IsKeptFlight, flight_on, with_group}
 use Rattle.flight_board.proofs.Places.{Under, held-by, holds, put-by, taken-by}
+
+-- what a row names in its table is told by no virtual router
+pub same-named : (k : Key) (v w : Vrf) (o p : Option BareRow) → o ≡ p → named_by k (in_place v o) ≡ named_by k (in_place w p)
+same-named k v w o p same = by o ∙ ap (λ z. named_by k (in_place w z)) same
+  where
+    by : (o : Option BareRow) → named_by k (in_place v o) ≡ named_by k (in_place w o)
+    by None = refl
+    by (Some r) = ap (names_of k) (bare_placed v r ∙ sym (bare_placed w r))
 
 -- ---- of one worker
 
@@ -74,15 +86,15 @@ module _ (plan : Ports) (applied : Entries) (w : ℕ) where
   pub kept-alike : (f g : FlightState) → g.named ≡ f.named → g.shared ≡ f.shared → IsSameOperation f.flown.operation g.flown.operation → IsKeptFlight plan applied w f → IsKeptFlight plan applied w g
   kept-alike f g named shared same is = record {
     worker = same.worker ∙ is.worker;
-    named = named ∙ is.named ∙ ap (λ k. named_by k (row_at applied k)) (sym same.key);
+    named = named ∙ is.named ∙ ap (λ k. named_by k (placed_at applied k)) (sym same.key);
     shared = ap₂ (λ k o. group_in (uses_of plan k o)) same.key same.new ∙ is.shared ∙ sym shared;
     placed = subst (HasPlace applied) (sym same.key) is.placed;
   }
 
-  pub kept-begun : (k : Key) (new : Option Row) (f : FlightState) → IsOperationOf w k new f.flown.operation → IsFlightBegun plan k (row_at applied k) new f → HasPlace applied k → IsKeptFlight plan applied w f
-  kept-begun k new f is begun placed = record {
+  pub kept-begun : (k : Key) (old new : Option Row) (f : FlightState) → IsOperationOf w k new f.flown.operation → IsFlightBegun plan k old new f → named_by k old ≡ named_by k (placed_at applied k) → HasPlace applied k → IsKeptFlight plan applied w f
+  kept-begun k old new f is begun same placed = record {
     worker = is.worker;
-    named = begun.named ∙ ap (λ q. named_by q (row_at applied q)) (sym is.key);
+    named = begun.named ∙ same ∙ ap (λ q. named_by q (placed_at applied q)) (sym is.key);
     shared = ap₂ (λ k o. group_in (uses_of plan k o)) is.key is.row ∙ begun.shared;
     placed = subst (HasPlace applied) (sym is.key) placed;
   }
@@ -154,7 +166,7 @@ kept-moved plan old new fs k others free kept = record {
       let is = kept.each w f e in
       let apart : f.flown.operation.key ≡ k → ⊥ = λ same. free w (subst (λ q. HasKeyAt fs q w) same (holds fs w f e)) in record {
         worker = is.worker;
-        named = is.named ∙ ap (named_by f.flown.operation.key) (sym (others.rows f.flown.operation.key apart));
+        named = is.named ∙ same-named f.flown.operation.key (router_in (row_at old) f.flown.operation.key) (router_in (row_at new) f.flown.operation.key) (row_at old f.flown.operation.key) (row_at new f.flown.operation.key) (sym (others.rows f.flown.operation.key apart));
         shared = is.shared;
         placed = others.places f.flown.operation.key apart is.placed;
       };

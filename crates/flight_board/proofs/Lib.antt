@@ -1,5 +1,7 @@
 mod Begins
+mod Counted
 mod Dues
+mod Endings
 mod Events
 mod Heads
 mod Kept

@@ -22,6 +22,7 @@ use Rattle.table_schema.specs.contracts.row.RowPartialEq.TheImpl as row_eq
 use Rattle.table_schema.specs.contracts.row.RowEq.TheImpl.Laws as equal_row
 use Rattle.table_schema.specs.contracts.row_hop.RowHopPartialEq.TheImpl as hop_eq
 use Rattle.table_schema.specs.contracts.row_hop.RowHopEq.TheImpl.Laws as equal_hop
+use Rattle.swss_types.proofs.Routers.{vrf-exact}
 use Rattle.sai_types.proofs.Exact.{ip-exact}
 use Rattle.sai_types.proofs.Equal.{lanes_exact}
 
@@ -72,7 +73,7 @@ row_exact (row.Port p) (row.Port q) h = ap row.Port (port_row_exact p q h)
 row_exact row.Vlan row.Vlan h = refl
 row_exact row.Vrf row.Vrf h = refl
 row_exact (row.Member a) (row.Member b) h = ap row.Member (tagging_exact a b h)
-row_exact row.Intf row.Intf h = refl
+row_exact (row.Intf v) (row.Intf w) h = ap row.Intf (vrf-exact v w h)
 row_exact row.Addr row.Addr h = refl
 row_exact (row.Neigh a) (row.Neigh b) h = ap row.Neigh (mac_exact a b h)
 row_exact (row.Route a) (row.Route b) h = ap row.Route (route_exact a b h)

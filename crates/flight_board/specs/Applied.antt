@@ -5,6 +5,8 @@ use Rattle.std.specs.Map.{lookup}
 use Rattle.table_schema.specs.Key.{key_cmp}
 use Rattle.table_schema.specs.declared.key.Key.{Key}
 use Rattle.table_schema.specs.declared.row.Row.{Row}
+use Rattle.switch_model.specs.Placed.{Placed, placed_rows, router_in}
+use Rattle.orch_flight.specs.Starting.{in_place}
 
 -- keys with their rows, or with a place alone
 abbrev pub Entries : Type 0
@@ -22,6 +24,14 @@ row_in (Some o) = o
 -- the applied row of a key
 abbrev pub row_at : Entries → Key → Option Row
 row_at entries k = row_in (place_at entries k)
+
+-- the applied row of a key in its place
+abbrev pub placed_at : Entries → Key → Option Placed
+placed_at entries k = placed_rows (row_at entries) k
+
+-- and a row that the key is to have: an address in the router of its interface's applied row
+abbrev pub placed_for : Entries → Key → Option Row → Option Placed
+placed_for entries k new = in_place (router_in (row_at entries) k) new
 
 -- a key has a place, with a row in it or none
 abbrev pub HasPlace : Entries → Key → Type 0

@@ -1,24 +1,26 @@
 -- The board: names and places, the applied rows, and the operations of four workers; and how an operation begins, goes on and ends. Own.
-use Rattle.std.specs.Prelude.{◌≡◌, ◌⊎◌, ℕ, List, [], ◌∷◌, length, Option, Some, None, option_map, set, Result, Ok, Err, zero, suc}
+use Rattle.std.specs.Prelude.{◌≡◌, ◌⊎◌, ◌+◌, ℕ, List, [], ◌∷◌, length, Option, Some, None, option_map, set, Result, Ok, Err, zero, suc}
 use Rattle.table_schema.specs.Plan.{IsPlan, Ports}
 use Rattle.table_schema.specs.declared.key.Key.{Key}
 use Rattle.table_schema.specs.declared.row.Row.{Row}
+use Rattle.sai_types.specs.declared.kind.Kind.{Kind}
 use Rattle.sai_types.specs.declared.weight.WHop.{WHop}
 use Rattle.sai_types.specs.declared.ids.Vid.{Vid}
+use Rattle.switch_model.specs.Placed.{Placed, bare}
 use Rattle.switch_model.specs.declared.wait.Wait.{Wait}
 use Rattle.switch_model.specs.declared.wait.Wait.TheVariants as wait
 use Rattle.row_layout.specs.Operations.{uses_of}
 use Rattle.ref_counts.specs.Registry.{Names}
-use Rattle.ref_counts.specs.Room.{GivesBack, RoomState, all_free}
+use Rattle.ref_counts.specs.Room.{GivesBack, RoomState, all_free, number_of_kind}
 use Rattle.orch_flight.specs.Calling.{IsOver}
 use Rattle.orch_flight.specs.Grouping.{GroupOperation, IsGroupOver}
 use Rattle.orch_flight.specs.Needing.{missing_for, wait_of}
 use Rattle.orch_flight.specs.Operation.{Operation}
 use Rattle.orch_flight.specs.Starting.{IsStartedBy}
-use Rattle.registry_laws.specs.Ending.{ended_names, named_by}
-use Rattle.registry_laws.specs.Flown.{Flown, due_for, group_in}
+use Rattle.registry_laws.specs.Ending.{MayEnd, ended_names, named_by}
+use Rattle.registry_laws.specs.Flown.{Flown, due_for, group_in, still_there_in_all}
 use Rattle.registry_laws.specs.Making.{KnowsNext, TookFor, with_group_begun}
-use Rattle.flight_board.specs.Applied.{Entries, HasPlace, row_at}
+use Rattle.flight_board.specs.Applied.{Entries, HasPlace, placed_at, placed_for, row_at}
 
 -- what a worker has under way: the keys of the rows that the key's applied row names, the group that its new row shares, and the operations
 pub record FlightState : Type 0 where
@@ -65,7 +67,7 @@ abbrev pub KnowsGroup : Ports → FlightState → Type 0
 KnowsGroup plan f = group_in (uses_of plan f.flown.operation.key f.flown.operation.new) ≡ f.shared
 
 -- one that begins: it has to do with no group yet, and keeps the keys of the rows that the key's old row names, and the group that its new row shares
-pub record IsFlightBegun (plan : Ports) (k : Key) (old new : Option Row) (f : FlightState) : Type 0 where
+pub record IsFlightBegun (plan : Ports) (k : Key) (old new : Option Placed) (f : FlightState) : Type 0 where
   pub group : f.flown.group ≡ None
   pub named : f.named ≡ named_by k old
   pub shared : group_in (uses_of plan k new) ≡ f.shared
@@ -73,7 +75,7 @@ pub record IsFlightBegun (plan : Ports) (k : Key) (old new : Option Row) (f : Fl
 -- what a worker has under way names what its key's applied row names, keeps the group that its new row shares, and has a place for its row
 pub record IsKeptFlight (plan : Ports) (applied : Entries) (w : ℕ) (f : FlightState) : Type 0 where
   pub worker : f.flown.operation.worker ≡ w
-  pub named : f.named ≡ named_by f.flown.operation.key (row_at applied f.flown.operation.key)
+  pub named : f.named ≡ named_by f.flown.operation.key (placed_at applied f.flown.operation.key)
   pub shared : KnowsGroup plan f
   pub placed : HasPlace applied f.flown.operation.key
 
@@ -100,9 +102,9 @@ pub record GoesOn (w : ℕ) (x : Flown) (names : Names) (room : RoomState) (old 
 
 -- one for which nothing is due ends: its key has its new row, and what it used and kept is given up
 pub record EndsNow (w : ℕ) (x : Flown) (names : Names) (room : RoomState) (old new : BoardState) : Type 0 where
-  pub row : row_at new.applied x.operation.key ≡ x.operation.new
+  pub row : row_at new.applied x.operation.key ≡ option_map bare x.operation.new
   pub none : flight_at new w ≡ None
-  pub names_are : new.names ≡ ended_names names w x.operation.key (row_at old.applied x.operation.key) x.operation.new
+  pub names_are : new.names ≡ ended_names names w x.operation.key (placed_at old.applied x.operation.key) x.operation.new
   pub room_is : GivesBack room w new.room
 
 -- what follows at once: an operation for which something is due goes on, and one for which nothing is ends
@@ -131,15 +133,35 @@ pub record IsSameBoard (old new : BoardState) : Type 0 where
 
 -- a key has to wait: for the worker whose operation has it, or for a key that its new row names and that is not applied
 abbrev pub IsHeldUp : BoardState → Key → Option Row → Wait → Type 0
-IsHeldUp b k row reason = ((v : ℕ) × IsFlownAt b k v × (reason ≡ wait.Busy v)) ⊎ (IsUnflown b k × (missing_for b.names k row ≡ Some reason))
+IsHeldUp b k row reason = ((v : ℕ) × IsFlownAt b k v × (reason ≡ wait.Busy v)) ⊎ (IsUnflown b k × (missing_for b.names k (placed_for b.applied k row) ≡ Some reason))
+
+-- how many objects of each kind there are, counted with the router interfaces that operations took away and are to make again
+abbrev pub AreCountedWith : BoardState → List ℕ → List ℕ → Type 0
+AreCountedWith b used counted = (kind : Kind) → number_of_kind counted kind ≡ number_of_kind used kind + still_there_in_all (flown_at b) kind
+
+-- a key has to wait for the first reason that the registry and the room tell
+pub record WaitsOn (b : BoardState) (used : List ℕ) (w : ℕ) (k : Key) (row : Option Row) (reason : Wait) : Type 0 where
+  pub counted : List ℕ
+  pub counts : AreCountedWith b used counted
+  pub first : wait_of b.plan b.names b.room counted w k (placed_at b.applied k) (placed_for b.applied k row) ≡ Some reason
+
+-- the operation of a key starts, with these names and this room
+pub record StartsOn (b : BoardState) (used : List ℕ) (w : ℕ) (k : Key) (row : Option Row) (f : Operation) (names : Names) (room : RoomState) : Type 0 where
+  pub counted : List ℕ
+  pub counts : AreCountedWith b used counted
+  pub started : IsStartedBy b.plan b.names b.room counted w k (placed_at b.applied k) (placed_for b.applied k row) (Ok f) names room
 
 -- the operation of a key begins, or the key waits and nothing changes: for the worker whose operation has it, or for the first reason that the registry and the room tell
 abbrev pub IsBegunFor : BoardState → List ℕ → ℕ → Key → Option Row → Result (Unit {0}) Wait → BoardState → Type 0
 IsBegunFor old used w k row (Err reason) new =
-    IsSameBoard old new × (((v : ℕ) × IsFlownAt old k v × (reason ≡ wait.Busy v)) ⊎ (IsUnflown old k × (wait_of old.plan old.names old.room used w k (row_at old.applied k) row ≡ Some reason)))
+    IsSameBoard old new × (((v : ℕ) × IsFlownAt old k v × (reason ≡ wait.Busy v)) ⊎ (IsUnflown old k × WaitsOn old used w k row reason))
 IsBegunFor old used w k row (Ok _) new =
-    IsUnflown old k × (f : Operation) × (names : Names) × (room : RoomState) × IsStartedBy old.plan old.names old.room used w k (row_at old.applied k) row (Ok f) names room
+    IsUnflown old k × (f : Operation) × (names : Names) × (room : RoomState) × StartsOn old used w k row f names room
     × BoardFollows w (record { operation = f; group = None }) names room old new
+
+-- an operation for which nothing is due from its beginning may end
+abbrev pub MayEndAtOnce : BoardState → List ℕ → ℕ → Key → Option Row → Type 0
+MayEndAtOnce b used w k row = (f : Operation) (names : Names) (room : RoomState) → StartsOn b used w k row f names room → due_for b.plan names (record { operation = f; group = None }) ≡ [] → MayEnd names w k f.new
 
 -- ---- calls and their effects
 
@@ -173,3 +195,7 @@ TookOn old w made names new names' = (f : FlightState) → flight_on old w ≡ S
 -- the call that was due for a worker has taken effect
 abbrev pub IsTakenFor : BoardState → ℕ → Option Vid → BoardState → Type 0
 IsTakenFor old w made new = (x : Flown) → flown_at old w ≡ Some x → (x' : Flown) × (names : Names) × TookFor x.operation x.group made old.names x' names × BoardFollows w x' names old.room old new
+
+-- and an operation for which nothing is due behind that call may end
+abbrev pub MayEndThen : BoardState → ℕ → Option Vid → Type 0
+MayEndThen b w made = (x x' : Flown) (names : Names) → flown_at b w ≡ Some x → TookFor x.operation x.group made b.names x' names → due_for b.plan names x' ≡ [] → MayEnd names w x'.operation.key x'.operation.new

@@ -1,12 +1,17 @@
 // The board.
-ghost use Rattle.std.specs.Prelude.{◌≡◌, ◌<◌, ◌↔◌, [], Some, None, IsSome, IsTrue, option_map, IfOk, IfSome, IfNone, OnOk, OnErr};
+ghost use Rattle.std.specs.Prelude.{◌≡◌, ◌<◌, ◌≤◌, ◌^◌, ◌↔◌, [], Some, None, IsSome, IsTrue, option_map, IfOk, IfSome, IfNone, OnOk, OnErr};
+ghost use Rattle.sai_types.specs.declared.kind.Kind.TheVariants as kind;
+ghost use Rattle.switch_model.specs.Placed.{router_in};
+ghost use Rattle.ref_counts.specs.Room.{number_of_kind};
 ghost use Rattle.orch_flight.specs.Needing.{first_unapplied};
 ghost use Rattle.orch_flight.specs.Sharing.{MayStart};
 ghost use Rattle.orch_flight.specs.Taking.{to_list};
+ghost use Rattle.registry_laws.specs.Ending.{MayEnd};
 ghost use Rattle.registry_laws.specs.Flown.{Flown, due_for};
 ghost use Rattle.registry_laws.specs.Making.{IsNextCall, MayTakeFor};
-ghost use Rattle.flight_board.specs.Applied.{row_at};
-ghost use Rattle.flight_board.specs.Board.{BoardFollows, FlightState, IsBegunFor, IsFlownAt, IsHeldUp, IsPrepared, IsCallReady, IsSameBoard, IsTakenFor, IsUnflown, flight_at, flown_at, new_board};
+ghost use Rattle.flight_board.specs.Applied.{placed_at, placed_for, row_at};
+ghost use Rattle.flight_board.specs.Board.{AreCountedWith, BoardFollows, FlightState, IsBegunFor, IsFlownAt, IsHeldUp, IsPrepared, IsCallReady, IsSameBoard, IsTakenFor, IsUnflown, MayEndAtOnce, MayEndThen, flight_at, flown_at, new_board};
+ghost use Rattle.flight_board.specs.Flights.{IsPlaceOf};
 
 use crate::applied::AppliedRows;
 use crate::flight::Flight;
@@ -18,8 +23,11 @@ use std::alloc::Global;
 use std::marker::Model;
 use std::mem::{drop, replace};
 use switch_model::Wait;
-use swss_types::OutOfMemory;
+use swss_types::{OutOfMemory, Vrf};
 use table_schema::{Key, PortPlan, Row, first_name};
+
+/// Where the number of router interfaces stands among those of all kinds.
+const RIFS: usize = 5;
 
 /// The rows that are applied, and the operations of up to four workers, which know names, users, pins and places, and no chip.
 #[derive(Drop)]
@@ -117,24 +125,29 @@ impl Board {
     ) -> Result<Result<(), Wait>, OutOfMemory>
         requires worker { worker < 4 }
         requires none { flown_at self.old worker ≡ None }
-        requires may { IsUnflown self.old key.now → MayStart self.old.plan self.old.names worker key.now (row_at self.old.applied key.now) new }
+        requires counted { number_of_kind used.now kind.Rif ≤ 2 ^ 63 }
+        requires may { IsUnflown self.old key.now → MayStart self.old.plan self.old.names worker key.now (placed_at self.old.applied key.now) (placed_for self.old.applied key.now new) }
+        requires ends { IsUnflown self.old key.now → MayEndAtOnce self.old used.now worker key.now new }
         ensures begun { IfOk result (λ answer. IsBegunFor self.old used.now worker key.now new answer self.new) }
         ensures err { OnErr result (IsSameBoard self.old self.new) }
     {
         if let Some(wait) = self.first_wait(key, &new)? {
             return Ok(Err(wait));
         }
+        let router = self.router_of(key);
+        let counted = self.counted(used);
         let has_row = self.applied.keep_place(key)?;
         match Flight::start(
             self.alloc,
             &self.plan,
             &mut self.registry,
             &mut self.room,
-            used,
+            &counted,
             worker,
             key,
             self.applied.known_row(key, has_row),
             new,
+            &router,
         ) {
             Ok(Ok(flight)) => {
                 self.workers.put(worker, flight);
@@ -150,6 +163,31 @@ impl Board {
                 Err(error)
             }
         }
+    }
+
+    /// The virtual router in which the row of a key is: for an address that of its interface's applied row.
+    fn router_of(&self, key: &Key) -> Vrf
+        ensures value { result ≡ router_in (row_at self.now.applied) key.now }
+        ensures place { IsPlaceOf key.now result }
+    {
+        let Key::Addr(on, ..) = key else {
+            return Vrf::Default;
+        };
+        match self.applied.row(&Key::Intf(*on)) {
+            Some(Row::Intf(router)) => *router,
+            _ => Vrf::Default,
+        }
+    }
+
+    /// How many objects of each kind there are, where a router interface that was removed and is to be made in another virtual
+    /// router counts as still there.
+    fn counted(&self, used: &KindCounts) -> KindCounts
+        requires { number_of_kind used.now kind.Rif ≤ 2 ^ 63 }
+        ensures { AreCountedWith self.now used.now result }
+    {
+        let mut counted = *used;
+        counted[RIFS] += self.workers.between();
+        counted
     }
 
     /// Why a key has to wait, as far as that is found before anything is kept for it: for the worker whose operation has the
@@ -207,6 +245,7 @@ impl Board {
     pub fn took(&mut self, worker: u32, made: Option<Vid>)
         requires worker { worker < 4 }
         requires may { (x : Flown) × (flown_at self.old worker ≡ Some x) × MayTakeFor x.operation x.group made self.old.names }
+        requires ends { MayEndThen self.old worker made }
         ensures { IsTakenFor self.old worker made self.new }
     {
         self.workers.took(worker, made, &mut self.registry);
@@ -215,7 +254,8 @@ impl Board {
 
     /// What a worker has under way goes on where something is due for it, and ends where nothing is.
     fn go_on(&mut self, worker: u32)
-        requires { worker < 4 }
+        requires worker { worker < 4 }
+        requires may { (f : FlightState) → flight_at self.old worker ≡ Some f → due_for self.old.plan self.old.names f.flown ≡ [] → MayEnd self.old.names worker f.flown.operation.key f.flown.operation.new }
         ensures { (f : FlightState) → flight_at self.old worker ≡ Some f → BoardFollows worker f.flown self.old.names self.old.room self.old self.new }
     {
         if !self.is_over(worker) {

@@ -2,14 +2,17 @@
 ghost use Rattle.std.specs.Prelude.{◌≡◌, ◌<◌, ◌↔◌, [], IsTrue, OnOk, OnErr, IfOk, option_map};
 ghost use Rattle.table_schema.specs.Plan.{Ports};
 ghost use Rattle.ref_counts.specs.Room.{GivesBack};
+ghost use Rattle.swss_types.specs.declared.vrf.Vrf.{Vrf};
+ghost use Rattle.switch_model.specs.Placed.{bare};
+ghost use Rattle.orch_flight.specs.Operation.{is_between};
 ghost use Rattle.orch_flight.specs.Sharing.{MayStart};
-ghost use Rattle.orch_flight.specs.Starting.{IsStartedBy, answered};
-ghost use Rattle.registry_laws.specs.Ending.{ended_names, named_by};
+ghost use Rattle.orch_flight.specs.Starting.{IsStartedBy, answered, in_place};
+ghost use Rattle.registry_laws.specs.Ending.{MayEnd, ended_names, named_by};
 ghost use Rattle.registry_laws.specs.Flown.{due_for, group_to_build, group_to_take};
 ghost use Rattle.registry_laws.specs.Making.{IsNextCall, MayTakeFor, TookFor, group_begun, left_of_group_by};
-ghost use Rattle.flight_board.specs.Applied.{HasPlace, KeepsOthers, row_at};
+ghost use Rattle.flight_board.specs.Applied.{HasPlace, KeepsOthers, placed_at, row_at};
 ghost use Rattle.flight_board.specs.Board.{IsCallReady, IsFlightBegun, KnowsGroup, operation_in, with_group};
-ghost use Rattle.flight_board.specs.Flights.{unboxed};
+ghost use Rattle.flight_board.specs.Flights.{IsPlaceOf, unboxed};
 
 use crate::applied::AppliedRows;
 use crate::ending::{drop_users, end_row};
@@ -20,7 +23,7 @@ use sai_types::{Call, Hops, KindCounts, Vid};
 use std::alloc::Global;
 use std::marker::Model;
 use switch_model::Wait;
-use swss_types::OutOfMemory;
+use swss_types::{OutOfMemory, Vrf};
 use table_schema::{Key, PortPlan, Row, names};
 
 /// The operation of a key's row, with that of the group that is built before it or taken away after it.
@@ -60,16 +63,20 @@ impl Flight {
         key: &Key,
         old: Option<&Row>,
         mut new: Option<Row>,
+        router: &Vrf,
     ) -> Result<Result<Flight, Wait>, OutOfMemory>
-        requires may { MayStart plan.now reg.old worker key.now (option_map (λ r. r.now) old) new }
-        ensures started { IfOk result (λ answer. IsStartedBy plan.now reg.old room.old used.now worker key.now (option_map (λ r. r.now) old.entry) new (answered operation_in answer) reg.new room.new) }
-        ensures begun { IfOk result (λ answer. IfOk answer (IsFlightBegun plan.now key.now (option_map (λ r. r.now) old.entry) new)) }
+        requires router { IsPlaceOf key.now router.now }
+        requires may { MayStart plan.now reg.old worker key.now (in_place router.now (option_map (λ r. r.now) old)) (in_place router.now new) }
+        ensures started { IfOk result (λ answer. IsStartedBy plan.now reg.old room.old used.now worker key.now (in_place router.now (option_map (λ r. r.now) old.entry)) (in_place router.now new) (answered operation_in answer) reg.new room.new) }
+        ensures begun { IfOk result (λ answer. IfOk answer (IsFlightBegun plan.now key.now (in_place router.now (option_map (λ r. r.now) old.entry)) (in_place router.now new))) }
         ensures err { OnErr result (reg.new ≡ reg.old) }
         ensures err_room { OnErr result (room.new ≡ room.old) }
     {
         let name = Name::Row(key.copy()?);
         let named = keys_named(alloc, key, old)?;
-        match RowFlight::start(alloc, plan, reg, room, used, worker, key, old, &mut new)? {
+        match RowFlight::start(
+            alloc, plan, reg, room, used, worker, key, old, &mut new, router,
+        )? {
             Ok(operation) => Ok(Ok(Flight {
                 worker,
                 name,
@@ -189,15 +196,23 @@ impl Flight {
         }
     }
 
+    /// Whether it stands between the removal of an interface's router interface and its creation in another virtual router.
+    pub fn is_between(&self) -> bool
+        ensures { result ≡ is_between self.now.flown.operation }
+    {
+        self.operation.is_between()
+    }
+
     /// The operation ends: its key uses the rows that it names now in the place of those that it named before, its name is
     /// live or gone, its places are given back, and its row is applied.
     pub fn end(self, reg: &mut Registry, room: &mut Room, applied: &mut AppliedRows)
         requires worker { self.flown.operation.worker < 4 }
-        requires named { self.named ≡ named_by self.flown.operation.key (row_at applied.old self.flown.operation.key) }
+        requires named { self.named ≡ named_by self.flown.operation.key (placed_at applied.old self.flown.operation.key) }
         requires placed { HasPlace applied.old self.flown.operation.key }
-        ensures names { reg.new ≡ ended_names reg.old self.flown.operation.worker self.flown.operation.key (row_at applied.old self.flown.operation.key) self.flown.operation.new }
+        requires may { MayEnd reg.old self.flown.operation.worker self.flown.operation.key self.flown.operation.new }
+        ensures names { reg.new ≡ ended_names reg.old self.flown.operation.worker self.flown.operation.key (placed_at applied.old self.flown.operation.key) self.flown.operation.new }
         ensures room { GivesBack room.old self.flown.operation.worker room.new }
-        ensures row { row_at applied.new self.flown.operation.key ≡ self.flown.operation.new }
+        ensures row { row_at applied.new self.flown.operation.key ≡ option_map bare self.flown.operation.new }
         ensures others { KeepsOthers self.flown.operation.key applied.old applied.new }
     {
         let Flight {
@@ -211,7 +226,7 @@ impl Flight {
         if let Name::Row(key) = &name {
             drop_users(reg, named, key);
             reg.release(worker, true);
-            end_row(reg, &name, &target);
+            end_row(reg, worker, &name, &target);
             room.give_back(worker);
             applied.apply(key, target);
         }
@@ -220,7 +235,7 @@ impl Flight {
 
 /// The keys of the rows that a key's row names.
 fn keys_named(alloc: Global, key: &Key, row: Option<&Row>) -> Result<Vec<Key>, OutOfMemory>
-    ensures { IfOk result (λ named. named.items ≡ named_by key.now (option_map (λ r. r.now) row.entry)) }
+    ensures { IfOk result (λ named. (v : Vrf) → named.items ≡ named_by key.now (in_place v (option_map (λ r. r.now) row.entry))) }
 {
     match row {
         Some(row) => names(alloc, key, row),

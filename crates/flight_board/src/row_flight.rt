@@ -1,13 +1,15 @@
 // The operation of a row of any table.
 ghost use Rattle.std.specs.Prelude.{◌≡◌, ◌↔◌, [], IsTrue, IfOk, OnErr, Option, option_map};
 ghost use Rattle.table_schema.specs.Plan.{Ports};
+ghost use Rattle.switch_model.specs.Placed.{bare};
 ghost use Rattle.row_layout.specs.Operations.{uses_of};
 ghost use Rattle.orch_flight.specs.Calling.{IsNextOf, IsOver, KnowsIds};
+ghost use Rattle.orch_flight.specs.Operation.{is_between};
 ghost use Rattle.orch_flight.specs.Sharing.{MayStart};
-ghost use Rattle.orch_flight.specs.Starting.{IsStartedBy, answered};
+ghost use Rattle.orch_flight.specs.Starting.{IsStartedBy, answered, in_place};
 ghost use Rattle.orch_flight.specs.Taking.{IsTook, MayTake};
 ghost use Rattle.registry_laws.specs.Flown.{group_in, group_to_take};
-ghost use Rattle.flight_board.specs.Flights.{HasGroupsOnly, HasRow, operation_of, shared_group};
+ghost use Rattle.flight_board.specs.Flights.{HasGroupsOnly, HasRow, HasTable, IsPlaceOf, operation_of, shared_group};
 
 use intf_orch::IntfFlight;
 use neigh_orch::NeighFlight;
@@ -17,7 +19,7 @@ use route_orch::RouteFlight;
 use sai_types::{Hops, KindCounts, Vid};
 use std::alloc::Global;
 use switch_model::Wait;
-use swss_types::OutOfMemory;
+use swss_types::{OutOfMemory, Vrf};
 use table_schema::{Key, PortPlan, Row};
 use vlan_orch::VlanFlight;
 
@@ -38,7 +40,8 @@ pub enum RowFlight {
 
 impl RowFlight {
     /// Starts the operation that brings a key from its applied row to its new one, or tells the first reason why it has to
-    /// wait, and changes nothing then. The operation takes the new row.
+    /// wait, and changes nothing then. The operation takes the new row. An address is in this virtual router, and any other
+    /// key has the default one here.
     pub fn start(
         alloc: Global,
         plan: &PortPlan,
@@ -49,11 +52,14 @@ impl RowFlight {
         key: &Key,
         old: Option<&Row>,
         new: &mut Option<Row>,
+        router: &Vrf,
     ) -> Result<Result<RowFlight, Wait>, OutOfMemory>
-        requires may { MayStart plan.now reg.old worker key.now (option_map (λ r. r.now) old) new.old }
-        ensures started { IfOk result (λ answer. IsStartedBy plan.now reg.old room.old used.now worker key.now (option_map (λ r. r.now) old.entry) new.old (answered operation_of answer) reg.new room.new) }
+        requires router { IsPlaceOf key.now router.now }
+        requires may { MayStart plan.now reg.old worker key.now (in_place router.now (option_map (λ r. r.now) old)) (in_place router.now new.old) }
+        ensures started { IfOk result (λ answer. IsStartedBy plan.now reg.old room.old used.now worker key.now (in_place router.now (option_map (λ r. r.now) old.entry)) (in_place router.now new.old) (answered operation_of answer) reg.new room.new) }
         ensures groups { IfOk result (λ answer. IfOk answer HasGroupsOnly) }
-        ensures shared { IfOk result (λ answer. IfOk answer (λ f. group_in (uses_of plan.now key.now new.old) ≡ shared_group f)) }
+        ensures table { IfOk result (λ answer. IfOk answer HasTable) }
+        ensures shared { IfOk result (λ answer. IfOk answer (λ f. group_in (uses_of plan.now key.now (in_place router.now new.old)) ≡ shared_group f)) }
         ensures row { IfOk result (λ answer. IfOk answer (λ f. HasRow f new.old)) }
         ensures err { OnErr result (reg.new ≡ reg.old) }
         ensures err_room { OnErr result (room.new ≡ room.old) }
@@ -75,7 +81,7 @@ impl RowFlight {
             }
             Key::Intf(_) | Key::Addr(..) | Key::Vrf(_) => {
                 let given = new.as_ref();
-                match IntfFlight::start(plan, reg, room, used, worker, key, old, given)? {
+                match IntfFlight::start(plan, reg, room, used, worker, key, old, given, router)? {
                     Ok(flight) => Ok(Ok(RowFlight::Intf(flight, new.take()))),
                     Err(wait) => Ok(Err(wait)),
                 }
@@ -117,8 +123,9 @@ impl RowFlight {
         requires { MayTake (operation_of self.old) made reg.old }
         ensures took { IsTook (operation_of self.old) made reg.old (operation_of self.new) reg.new }
         ensures groups { HasGroupsOnly self.old → HasGroupsOnly self.new }
+        ensures table { HasTable self.old → HasTable self.new }
         ensures shared { shared_group self.new ≡ shared_group self.old }
-        ensures row { HasRow self.old (operation_of self.old).new → HasRow self.new (operation_of self.new).new }
+        ensures row { HasRow self.old (option_map bare (operation_of self.old).new) → HasRow self.new (option_map bare (operation_of self.new).new) }
     {
         match self {
             RowFlight::Port(flight, _) => flight.took(made, reg),
@@ -139,6 +146,17 @@ impl RowFlight {
             RowFlight::Intf(flight, _) => flight.is_over(),
             RowFlight::Neigh(flight, _) => flight.is_over(),
             RowFlight::Route(flight) => flight.is_over(),
+        }
+    }
+
+    /// Whether it stands between the removal of an interface's router interface and its creation in another virtual router.
+    pub fn is_between(&self) -> bool
+        requires { HasTable self.now }
+        ensures { result ≡ is_between (operation_of self.now) }
+    {
+        match self {
+            RowFlight::Intf(flight, _) => flight.is_between(),
+            _ => false,
         }
     }
 

@@ -1,5 +1,7 @@
 // What each worker has under way.
-ghost use Rattle.std.specs.Prelude.{◌≡◌, ◌<◌, ◌↔◌, ◌∷◌, [], ℕ, None, Some, length, set, option_map, IfSome, IfNone, IsTrue, OnErr, OnOk};
+ghost use Rattle.std.specs.Prelude.{◌≡◌, ◌<◌, ◌≤◌, ◌↔◌, ◌∷◌, [], ℕ, None, Some, length, set, option_map, IfSome, IfNone, IsTrue, OnErr, OnOk};
+ghost use Rattle.sai_types.specs.declared.kind.Kind.TheVariants as kind;
+ghost use Rattle.registry_laws.specs.Flown.{still_there, still_there_in_all};
 ghost use Rattle.registry_laws.specs.Making.{MayTakeFor};
 ghost use Rattle.flight_board.specs.Board.{FlightState, HasKeyAt, KnowsGroup, TookOn, flight_on, with_group};
 
@@ -94,6 +96,29 @@ impl Workers {
         match &mut self.flights[worker as usize] {
             Some(flight) => flight.took(made, reg),
             None => {}
+        }
+    }
+
+    /// How many operations stand between the removal of an interface's router interface and its creation in another virtual
+    /// router.
+    pub fn between(&self) -> u64
+        requires four { length self.now ≡ 4 }
+        ensures bound { result ≤ 4 }
+        ensures value { result ≡ still_there_in_all (λ w. option_map (λ f. f.flown) (flight_on self.now w)) kind.Rif }
+    {
+        self.between_at(0) + self.between_at(1) + self.between_at(2) + self.between_at(3)
+    }
+
+    /// Whether a worker's operation stands there: 1 or 0.
+    fn between_at(&self, worker: u32) -> u64
+        requires worker { worker < 4 }
+        requires four { length self.now ≡ 4 }
+        ensures bound { result ≤ 1 }
+        ensures value { result ≡ still_there kind.Rif (option_map (λ f. f.flown) (flight_on self.now worker)) }
+    {
+        match self.get(worker) {
+            Some(flight) => u64::from(flight.is_between()),
+            None => 0,
         }
     }
 

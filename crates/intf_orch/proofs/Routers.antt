@@ -4,8 +4,6 @@ use Rattle.std.specs.Result.{result_and}
 use Rattle.swss_types.specs.declared.vrf.VrfName.{VrfName}
 use Rattle.table_schema.specs.Plan.{Ports}
 use Rattle.table_schema.specs.declared.key.Key.TheVariants as key
-use Rattle.table_schema.specs.declared.row.Row.{Row}
-use Rattle.table_schema.specs.declared.row.Row.TheVariants as row
 use Rattle.sai_types.specs.Alike.{IsIn}
 use Rattle.sai_types.specs.Names as thing_name
 use Rattle.sai_types.specs.declared.ids.Vid.{Vid}
@@ -14,6 +12,8 @@ use Rattle.sai_types.specs.declared.body.Call.TheVariants as call
 use Rattle.sai_types.specs.declared.body.Entry.TheVariants as entry
 use Rattle.sai_types.specs.declared.thing.Thing.{Thing}
 use Rattle.sai_types.specs.declared.thing.Thing.TheVariants as thing
+use Rattle.switch_model.specs.Placed as row
+use Rattle.switch_model.specs.Placed.{Placed as Row}
 use Rattle.switch_model.specs.declared.wait.Wait.{Wait}
 use Rattle.row_layout.specs.Operations.{Make, Take, own_changes}
 use Rattle.row_layout.proofs.Changing.{set_none}
@@ -73,7 +73,7 @@ module _ (plan : Ports) (label : VrfName) where
         → OnErr begun (room' ≡ room)
         → Starts plan names room used worker answer names' room' (key.Vrf label) None (Some r)
     router-added r need names' room' begun answer needs is may =
-        row-started plan names room used worker (subject.Vrf label router.Comes) (λ r. refl) refl None r need names' room' begun answer is needs may refl (row-is r) (added-due r)
+        row-started plan names room used worker (subject.Vrf label router.Comes) (λ r. refl) refl None r need names' room' begun answer is needs may refl refl (row-is r) (added-due r)
 
     pub router-changed : (a r : Row) (names' : Names) (room' : RoomState) (begun : Result (Unit {0}) Wait) (answer : Result Subject Wait)
         → answer ≡ result_and begun (Ok (subject.Vrf label router.Stays))
@@ -86,7 +86,7 @@ module _ (plan : Ports) (label : VrfName) where
         → OnErr begun (room' ≡ room)
         → Starts plan names room used worker answer names' room' (key.Vrf label) (Some a) (Some r)
     router-changed a r names' room' begun answer is may =
-        row-started plan names room used worker (subject.Vrf label router.Stays) (λ r. refl) refl (Some a) r no_places names' room' begun answer is refl may (row-is a (may.old_fits a refl)) (row-is r) (changed-due a r (may.old_fits a refl))
+        row-started plan names room used worker (subject.Vrf label router.Stays) (λ r. refl) refl (Some a) r no_places names' room' begun answer is refl may refl (row-is a (may.old_fits a refl)) (row-is r) (changed-due a r (may.old_fits a refl))
 
     pub router-removed : (a : Row) (names' : Names) (begun : Result (Unit {0}) Wait) (answer : Result Subject Wait)
         → answer ≡ result_and begun (Ok (subject.Vrf label router.Goes))

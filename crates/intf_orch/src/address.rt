@@ -3,6 +3,7 @@ ghost use Rattle.std.specs.Prelude.{◌≡◌, true, false, None, Some, IfOk, If
 ghost use Rattle.ref_counts.specs.declared.name.NameState.TheVariants.{Live};
 ghost use Rattle.ref_counts.specs.Registered.{begun_to_go};
 ghost use Rattle.ref_counts.specs.Registry.{changed, retire_refusal_at, state_of};
+ghost use Rattle.switch_model.specs.Placed.{place};
 ghost use Rattle.row_layout.specs.Shared.{uses};
 ghost use Rattle.orch_flight.specs.Sharing.{AreOfShared, MayStart, owners_of};
 ghost use Rattle.orch_flight.specs.Starting.{IsStartedBy, answered};
@@ -13,7 +14,7 @@ use orch_flight::{leave, own_of, start_row, start_sharing, try_remove};
 use ref_counts::{Name, Registry, Room};
 use sai_types::{KINDS, KindCounts};
 use switch_model::Wait;
-use swss_types::{IfName, Ip, OutOfMemory};
+use swss_types::{IfName, Ip, OutOfMemory, Vrf};
 use table_schema::{Key, PortPlan, Row};
 
 /// Starts the operation of an interface's address that is added: its own address comes with the first row of the address.
@@ -27,16 +28,17 @@ pub fn add(
     ip: &Ip,
     len: u8,
     new: &Row,
+    router: &Vrf,
 ) -> Result<Result<Subject, Wait>, OutOfMemory>
-    requires may { MayStart plan.now reg.old worker (Key.Addr on ip.now len) None (Some new.now) }
-    ensures started { IfOk result (λ answer. IsStartedBy plan.now reg.old room.old used.now worker (Key.Addr on ip.now len) None (Some new.now) (answered (intf_operation worker false true) answer) reg.new room.new) }
+    requires may { MayStart plan.now reg.old worker (Key.Addr on ip.now len) None (Some (place router.now new.now)) }
+    ensures started { IfOk result (λ answer. IsStartedBy plan.now reg.old room.old used.now worker (Key.Addr on ip.now len) None (Some (place router.now new.now)) (answered (intf_operation worker false true) answer) reg.new room.new) }
     ensures err { OnErr result (reg.new ≡ reg.old) }
     ensures err_room { OnErr result (room.new ≡ room.old) }
 {
-    let shared = shared_by(plan, on, ip, len, new);
+    let shared = shared_by(plan, router, on, ip, len, new);
     let key = Key::Addr(on, *ip, len);
-    let need = own_places(ip, false);
-    let need_built = own_places(ip, true);
+    let need = own_places(router, ip, false);
+    let need_built = own_places(router, ip, true);
     let started = start_sharing(
         reg,
         room,
@@ -50,7 +52,7 @@ pub fn add(
         &need_built,
     )?;
     match started {
-        Ok(builds) => Ok(Ok(Subject::Addr(on, *ip, len, own_stage(builds)))),
+        Ok(builds) => Ok(Ok(Subject::Addr(*router, on, *ip, len, own_stage(builds)))),
         Err(wait) => Ok(Err(wait)),
     }
 }
@@ -67,13 +69,14 @@ pub fn change(
     len: u8,
     _old: &Row,
     new: &Row,
+    router: &Vrf,
 ) -> Result<Result<Subject, Wait>, OutOfMemory>
-    requires may { MayStart plan.now reg.old worker (Key.Addr on ip.now len) (Some _old.now) (Some new.now) }
-    ensures started { IfOk result (λ answer. IsStartedBy plan.now reg.old room.old used.now worker (Key.Addr on ip.now len) (Some _old.now) (Some new.now) (answered (intf_operation worker true true) answer) reg.new room.new) }
+    requires may { MayStart plan.now reg.old worker (Key.Addr on ip.now len) (Some (place router.now _old.now)) (Some (place router.now new.now)) }
+    ensures started { IfOk result (λ answer. IsStartedBy plan.now reg.old room.old used.now worker (Key.Addr on ip.now len) (Some (place router.now _old.now)) (Some (place router.now new.now)) (answered (intf_operation worker true true) answer) reg.new room.new) }
     ensures err { OnErr result (reg.new ≡ reg.old) }
     ensures err_room { OnErr result (room.new ≡ room.old) }
 {
-    let shared = shared_by(plan, on, ip, len, new);
+    let shared = shared_by(plan, router, on, ip, len, new);
     let key = Key::Addr(on, *ip, len);
     let names = [Key::Intf(on)];
     let begun = start_row(
@@ -87,7 +90,7 @@ pub fn change(
         &shared,
         &[0; KINDS],
     )?;
-    Ok(begun.and(Ok(Subject::Addr(on, *ip, len, OwnStage::Stays))))
+    Ok(begun.and(Ok(Subject::Addr(*router, on, *ip, len, OwnStage::Stays))))
 }
 
 /// Starts the operation of an address that is removed. It has no object of its own, so it leaves its own address at once, which
@@ -102,14 +105,15 @@ pub fn remove(
     ip: &Ip,
     len: u8,
     old: &Row,
+    router: &Vrf,
 ) -> Result<Result<Subject, Wait>, OutOfMemory>
-    requires may { MayStart plan.now reg.old worker (Key.Addr on ip.now len) (Some old.now) None }
-    ensures started { IfOk result (λ answer. IsStartedBy plan.now reg.old room.now used.now worker (Key.Addr on ip.now len) (Some old.now) None (answered (intf_operation worker true false) answer) reg.new room.now) }
+    requires may { MayStart plan.now reg.old worker (Key.Addr on ip.now len) (Some (place router.now old.now)) None }
+    ensures started { IfOk result (λ answer. IsStartedBy plan.now reg.old room.now used.now worker (Key.Addr on ip.now len) (Some (place router.now old.now)) None (answered (intf_operation worker true false) answer) reg.new room.now) }
     ensures err { OnErr result (reg.new ≡ reg.old) }
 {
-    let shared = shared_by(plan, on, ip, len, old);
+    let shared = shared_by(plan, router, on, ip, len, old);
     match try_leave(reg, worker, &Key::Addr(on, *ip, len), &shared)? {
-        Ok(stage) => Ok(Ok(Subject::Addr(on, *ip, len, stage))),
+        Ok(stage) => Ok(Ok(Subject::Addr(*router, on, *ip, len, stage))),
         Err(wait) => Ok(Err(wait)),
     }
 }
@@ -137,14 +141,14 @@ fn try_leave(
     }
 }
 
-/// What a row of an interface's address shares: the own address, unless the interface is on a port that is not in the plan.
-fn shared_by(plan: &PortPlan, on: IfName, ip: &Ip, len: u8, row: &Row) -> Option<Name>
-    ensures value { uses plan.now (Key.Addr on ip.now len) row.now ≡ owners_of result }
+/// What a row of an interface's address shares: the own address in its virtual router, unless the interface is on a port that is not in the plan.
+fn shared_by(plan: &PortPlan, router: &Vrf, on: IfName, ip: &Ip, len: u8, row: &Row) -> Option<Name>
+    ensures value { uses plan.now (Key.Addr on ip.now len) (place router.now row.now) ≡ owners_of result }
     ensures kind { AreOfShared result }
 {
     let _len = len;
     match row {
-        Row::Addr => own_of(plan, on, *ip),
+        Row::Addr => own_of(plan, router, on, *ip),
         _ => None,
     }
 }

@@ -1,5 +1,6 @@
 // The operation of a virtual router: how it starts, its call, and what becomes of its name.
 ghost use Rattle.std.specs.Prelude.{◌≡◌, true, false, None, Some, IfOk, OnErr};
+ghost use Rattle.switch_model.specs.Placed.{place};
 ghost use Rattle.orch_flight.specs.Sharing.{MayStart};
 ghost use Rattle.orch_flight.specs.Starting.{IsStartedBy, answered};
 ghost use Rattle.intf_orch.specs.Interfaces.{intf_operation};
@@ -10,7 +11,7 @@ use orch_flight::{start_row, try_remove, vid};
 use ref_counts::{Name, Next, Registry, Room};
 use sai_types::{Body, Call, Entry, KINDS, KindCounts, Vid};
 use switch_model::Wait;
-use swss_types::{OutOfMemory, VrfName};
+use swss_types::{OutOfMemory, Vrf, VrfName};
 use table_schema::{Key, PortPlan, Row};
 
 /// Starts the operation of a virtual router that is added. Its row names no other.
@@ -22,9 +23,10 @@ pub fn add(
     worker: u32,
     label: VrfName,
     _new: &Row,
+    _router: &Vrf,
 ) -> Result<Result<Subject, Wait>, OutOfMemory>
-    requires may { MayStart _plan.now reg.old worker (Key.Vrf label) None (Some _new.now) }
-    ensures started { IfOk result (λ answer. IsStartedBy _plan.now reg.old room.old used.now worker (Key.Vrf label) None (Some _new.now) (answered (intf_operation worker false true) answer) reg.new room.new) }
+    requires may { MayStart _plan.now reg.old worker (Key.Vrf label) None (Some (place _router.now _new.now)) }
+    ensures started { IfOk result (λ answer. IsStartedBy _plan.now reg.old room.old used.now worker (Key.Vrf label) None (Some (place _router.now _new.now)) (answered (intf_operation worker false true) answer) reg.new room.new) }
     ensures err { OnErr result (reg.new ≡ reg.old) }
     ensures err_room { OnErr result (room.new ≡ room.old) }
 {
@@ -51,9 +53,10 @@ pub fn change(
     label: VrfName,
     _old: &Row,
     _new: &Row,
+    _router: &Vrf,
 ) -> Result<Result<Subject, Wait>, OutOfMemory>
-    requires may { MayStart _plan.now reg.old worker (Key.Vrf label) (Some _old.now) (Some _new.now) }
-    ensures started { IfOk result (λ answer. IsStartedBy _plan.now reg.old room.old used.now worker (Key.Vrf label) (Some _old.now) (Some _new.now) (answered (intf_operation worker true true) answer) reg.new room.new) }
+    requires may { MayStart _plan.now reg.old worker (Key.Vrf label) (Some (place _router.now _old.now)) (Some (place _router.now _new.now)) }
+    ensures started { IfOk result (λ answer. IsStartedBy _plan.now reg.old room.old used.now worker (Key.Vrf label) (Some (place _router.now _old.now)) (Some (place _router.now _new.now)) (answered (intf_operation worker true true) answer) reg.new room.new) }
     ensures err { OnErr result (reg.new ≡ reg.old) }
     ensures err_room { OnErr result (room.new ≡ room.old) }
 {
@@ -71,9 +74,10 @@ pub fn remove(
     worker: u32,
     label: VrfName,
     _old: &Row,
+    _router: &Vrf,
 ) -> Result<Result<Subject, Wait>, OutOfMemory>
-    requires may { MayStart _plan.now reg.old worker (Key.Vrf label) (Some _old.now) None }
-    ensures started { IfOk result (λ answer. IsStartedBy _plan.now reg.old room.now used.now worker (Key.Vrf label) (Some _old.now) None (answered (intf_operation worker true false) answer) reg.new room.now) }
+    requires may { MayStart _plan.now reg.old worker (Key.Vrf label) (Some (place _router.now _old.now)) None }
+    ensures started { IfOk result (λ answer. IsStartedBy _plan.now reg.old room.now used.now worker (Key.Vrf label) (Some (place _router.now _old.now)) None (answered (intf_operation worker true false) answer) reg.new room.now) }
     ensures err { OnErr result (reg.new ≡ reg.old) }
 {
     let begun = try_remove(reg, worker, &Key::Vrf(label))?;

@@ -9,6 +9,7 @@ use Rattle.table_schema.specs.declared.row.Row.{Row}
 use Rattle.table_schema.specs.declared.write.Sent.{Sent}
 use Rattle.sai_types.specs.declared.ids.Rid.{Rid}
 use Rattle.sai_types.specs.declared.body.Call.{Call}
+use Rattle.sai_types.specs.declared.thing.Thing.{Thing}
 use Rattle.sai_types.specs.declared.thing.Thing.TheVariants as thing
 use Rattle.swss_types.specs.declared.address.Prefix.{Prefix}
 use Rattle.swss_types.specs.declared.vrf.Vrf.{Vrf}
@@ -23,6 +24,8 @@ use Rattle.sai_types.specs.Named.{named}
 use Rattle.sai_types.specs.Objects.{Objects}
 use Rattle.switch_model.specs.Good.{good_rows, TypedRows}
 use Rattle.switch_model.specs.Marks.{sent_writes}
+use Rattle.switch_model.specs.Placed as placed
+use Rattle.switch_model.specs.Placed.{Placed, bare, place}
 use Rattle.switch_model.specs.Sound.{AreWithin}
 use Rattle.table_schema.specs.declared.write.Write.{Write}
 use Rattle.switch_model.specs.Promises.{EffectsAreLegal, MarksAreTrue, RoutesAreOfRows, good_rows_at}
@@ -55,17 +58,24 @@ module _ (plan : Ports) (is : IsPlan plan) (workers : ℕ) (capacities : List �
   )
 
   -- each row that is applied or to be applied was good after some of the writes taken
-  board_dated : (s : LoggedSwitch) → Told plan is workers capacities s → (k : Key) (r : Row) → IsRow s.switch.machine.board k r → IsDated s.log.taken k r
-  board_dated s told k r h = logged_once s.log.taken s.switch.written.taken k r told.taken (told.kept.good k r h)
+  board_dated : (s : LoggedSwitch) → Told plan is workers capacities s → (k : Key) (r : Placed) → IsRow s.switch.machine.board k r → IsDated s.log.taken k (bare r)
+  board_dated s told k r h = logged_once s.log.taken s.switch.written.taken k (bare r) told.taken (told.kept.good k r h)
 
   record Dated (s : LoggedSwitch) : Type 0 where
     told : Told plan is workers capacities s
     routes : (j : ℕ) → j ≤ length s.effects → RoutesAreOfRows plan s.log.taken (chip_after s.effects j)
     rounds : Rounds s.log
 
+  -- a row with a route of its own is in its place in any router
+  route_place : (v : Vrf) (prefix : Prefix) (t : Thing) (r : Placed) → IsIn t (own_things plan (key.Route v prefix) r) → r ≡ place v (bare r)
+  route_place v prefix t (placed.Addr u) h = elim h [ ]
+  route_place v prefix t _ h = refl
+
   -- a route of a row that was good once is of a row that was written
-  pub route_dated : (taken : List Sent) (writes : List Write) (v : Vrf) (prefix : Prefix) (goal : Goal) (r : Row) → writes ≡ sent_writes taken → IsGoodOnce plan writes (key.Route v prefix) r → IsIn (thing.Route v prefix goal) (own_things plan (key.Route v prefix) r) → (n : ℕ) × (row : Row) × (n ≤ length taken) × (good_rows_at plan taken n (key.Route v prefix) ≡ Some row) × IsIn (thing.Route v prefix goal) (things_of plan (key.Route v prefix) row)
-  route_dated taken writes v prefix goal r same good in_it = let when = logged_once taken writes (key.Route v prefix) r same good in (when.0, r, when.1, when.2, (things-split plan (key.Route v prefix) r).back (thing.Route v prefix goal) (inl in_it))
+  pub route_dated : (taken : List Sent) (writes : List Write) (v : Vrf) (prefix : Prefix) (goal : Goal) (r : Placed) → writes ≡ sent_writes taken → IsGoodOnce plan writes (key.Route v prefix) (bare r) → IsIn (thing.Route v prefix goal) (own_things plan (key.Route v prefix) r) → (n : ℕ) × (row : Row) × (n ≤ length taken) × (good_rows_at plan taken n (key.Route v prefix) ≡ Some row) × IsIn (thing.Route v prefix goal) (things_of plan (key.Route v prefix) (place v row))
+  route_dated taken writes v prefix goal r same good in_it =
+      let when = logged_once taken writes (key.Route v prefix) (bare r) same good in
+      (when.0, bare r, when.1, when.2, subst (λ z. IsIn (thing.Route v prefix goal) (things_of plan (key.Route v prefix) z)) (route_place v prefix (thing.Route v prefix goal) r in_it) ((things-split plan (key.Route v prefix) r).back (thing.Route v prefix goal) (inl in_it)))
 
   -- the routes on the chip are of rows that are applied or to be
   pub routes-now : (c : SwitchState) (taken : List Sent) → IsSafe plan workers capacities c → c.written.taken ≡ sent_writes taken → RoutesAreOfRows plan taken c.objects
@@ -130,7 +140,7 @@ module _ (plan : Ports) (is : IsPlan plan) (workers : ℕ) (capacities : List �
   pub true-log : (ts : List LoggedSwitch) → AreLoggedEvents plan workers capacities new_switch ts → MarksAreTrue plan capacities (after_logged new_switch ts).log (after_logged new_switch ts).effects × EffectsAreLegal plan capacities (after_logged new_switch ts).log.taken (after_logged new_switch ts).effects
   true-log ts run = let x = dated_log new_switch ts dated_new run in (x.told.marks, record { legal = x.told.legal; routes = x.routes })
 
-  pub dated-rows : (ts : List LoggedSwitch) → AreLoggedEvents plan workers capacities new_switch ts → (k : Key) (r : Row) → IsRow (after_logged new_switch ts).switch.machine.board k r → IsDated (after_logged new_switch ts).log.taken k r
+  pub dated-rows : (ts : List LoggedSwitch) → AreLoggedEvents plan workers capacities new_switch ts → (k : Key) (r : Placed) → IsRow (after_logged new_switch ts).switch.machine.board k r → IsDated (after_logged new_switch ts).log.taken k (bare r)
   dated-rows ts run k r h = board_dated (after_logged new_switch ts) (dated_log new_switch ts dated_new run).told k r h
 
   pub counts-within : (ts : List LoggedSwitch) → AreLoggedEvents plan workers capacities new_switch ts → AreWithin (length (after_logged new_switch ts).log.taken) (length (after_logged new_switch ts).effects) (after_logged new_switch ts).log.marks

@@ -5,16 +5,16 @@ use Rattle.std.proofs.lemmas.Option.{same_Some}
 use Rattle.swss_types.specs.declared.interface.IfName.{IfName}
 use Rattle.swss_types.specs.declared.interface.IfName.TheVariants as on
 use Rattle.swss_types.specs.declared.address.Ip.{Ip}
-use Rattle.swss_types.specs.declared.vrf.Vrf.TheVariants as vrf
+use Rattle.swss_types.specs.declared.vrf.Vrf.{Vrf}
+use Rattle.swss_types.specs.Vrf.{same_vrf}
 use Rattle.table_schema.specs.Fields.{Pairs}
 use Rattle.table_schema.specs.Plan.{Ports}
 use Rattle.table_schema.specs.declared.key.Key.{Key}
 use Rattle.table_schema.specs.declared.key.Key.TheVariants as key
-use Rattle.table_schema.specs.declared.row.Row.{Row}
-use Rattle.table_schema.specs.declared.row.Row.TheVariants as row
 use Rattle.table_schema.specs.declared.row.RouteRow.{RouteRow}
 use Rattle.table_schema.specs.declared.row.RouteRow.TheVariants as route
 use Rattle.table_schema.specs.declared.row_hop.RowHop.{RowHop}
+use Rattle.sai_types.specs.declared.hop.Base.{Base}
 use Rattle.sai_types.specs.declared.weight.WHop.{WHop}
 use Rattle.sai_types.specs.declared.thing.Thing.{Thing}
 use Rattle.sai_types.specs.declared.thing.Thing.TheVariants as thing
@@ -22,6 +22,8 @@ use Rattle.sai_types.specs.Alike.{IsIn}
 use Rattle.sai_types.specs.Hop.{put_hop}
 use Rattle.sai_types.proofs.Things.{both_mapped}
 use Rattle.switch_model.specs.Good.{good_row}
+use Rattle.switch_model.specs.Placed as row
+use Rattle.switch_model.specs.Placed.{Placed as Row, bare}
 use Rattle.switch_model.specs.Things.{base_of, hops_of, lane_of, members_of, whop_of}
 use Rattle.switch_model.proofs.Members.{members_count}
 use Rattle.row_layout.specs.Operations.{Change, Set, going, make_all, own_changes, own_sets, thing_of_port, same_thing, set_all, set_to, shared_going, take_all, uses_of}
@@ -75,7 +77,7 @@ own_few plan (key.Port port) (row.Port r) = from_few 3 (lane_of plan port) (λ l
 own_few plan (key.Vlan vlan) row.Vlan = omega arith
 own_few plan (key.Vrf n) row.Vrf = omega arith
 own_few plan (key.Member vlan port) (row.Member tagging) = from_few 3 (lane_of plan port) (λ lane. thing.VlanMember vlan lane tagging ∷ []) (λ lane. omega arith)
-own_few plan (key.Intf n) row.Intf = from_few 3 (base_of plan n) (λ b. thing.Rif b vrf.Default ∷ []) (λ b. omega arith)
+own_few plan (key.Intf n) (row.Intf v) = from_few 3 (base_of plan n) (λ b. thing.Rif b v ∷ []) (λ b. omega arith)
 own_few plan (key.Neigh n ip) (row.Neigh mac) = from_few 3 (base_of plan n) (λ b. thing.Neighbor (record { on = b; ip = ip }) mac ∷ thing.NextHop (record { on = b; ip = ip }) ∷ []) (λ b. omega arith)
 own_few plan (key.Route v prefix) (row.Route r) = from_few 1 (goal_of plan r) (λ g. thing.Route v prefix g ∷ []) (λ g. omega arith)
 own_few plan _ _ = omega arith
@@ -92,6 +94,12 @@ own_sets_few plan (key.Port port) (row.Port a) (row.Port r) =
     let two = set_few (thing_of_port a.lanes r.speed a.mtu a.up) (thing_of_port a.lanes r.speed r.mtu a.up) last in
     let three = set_few (thing_of_port a.lanes a.speed a.mtu a.up) (thing_of_port a.lanes r.speed a.mtu a.up) more in
     omega (arith, one, two, three)
+own_sets_few plan (key.Intf n) (row.Intf v) (row.Intf w) = by (same_vrf v w) (base_of plan n)
+  where
+    by : (b : Bool) (o : Option Base) → length (if b then [] else take_all (from o (λ b. thing.Rif b v ∷ [])) (make_all (from o (λ b. thing.Rif b w ∷ [])) [])) ≤ 3
+    by true o = omega arith
+    by false None = omega arith
+    by false (Some b) = omega arith
 own_sets_few plan k a r =
     let sets = sets_few (own_things plan k a) (own_things plan k r) in
     let own = own_few plan k a in
@@ -112,7 +120,7 @@ most_shared _ = 1
 
 -- a row reads
 abbrev HasFields : Ports → Key → Row → Type 0
-HasFields plan k r = (fields : Option Pairs) × (good_row plan k fields ≡ Some r)
+HasFields plan k r = (fields : Option Pairs) × (good_row plan k fields ≡ Some (bare r))
 
 hops_length : (plan : Ports) (hops : List (RowHop × ℕ)) (out : List WHop) → hops_of plan hops ≡ Some out → length out ≤ length hops
 hops_length plan [] out h = let same = ap length (same_Some [] out h) in omega (arith, same)
@@ -140,14 +148,14 @@ route_few plan route.Drop p few h = elim h [ ]
 route_few plan (route.Direct n) p few h = elim h [ ]
 route_few plan (route.Hops hops) p few h = group_few 128 (hops_of plan hops) p (λ out e. let less = hops_length plan hops out e in omega (arith, less, few)) h
 
-address_few : (plan : Ports) (n : IfName) (ip : Ip) (p : Owner) → IsIn p (address_uses plan n ip) → length (shared_things p) ≤ 1
-address_few plan (on.Ethernet port) ip p h = let x = from_in (lane_of plan port) (λ lane. owner.Own vrf.Default ip ∷ []) p h in only (λ z. length (shared_things z) ≤ 1) p (owner.Own vrf.Default ip) (omega arith) x.2
-address_few plan (on.Vlan vlan) ip p h = only (λ z. length (shared_things z) ≤ 1) p (owner.Own vrf.Default ip) (omega arith) h
-address_few plan (on.Loopback number) ip p h = only (λ z. length (shared_things z) ≤ 1) p (owner.Own vrf.Default ip) (omega arith) h
+address_few : (plan : Ports) (n : IfName) (v : Vrf) (ip : Ip) (p : Owner) → IsIn p (address_uses plan n v ip) → length (shared_things p) ≤ 1
+address_few plan (on.Ethernet port) v ip p h = let x = from_in (lane_of plan port) (λ lane. owner.Own v ip ∷ []) p h in only (λ z. length (shared_things z) ≤ 1) p (owner.Own v ip) (omega arith) x.2
+address_few plan (on.Vlan vlan) v ip p h = only (λ z. length (shared_things z) ≤ 1) p (owner.Own v ip) (omega arith) h
+address_few plan (on.Loopback number) v ip p h = only (λ z. length (shared_things z) ≤ 1) p (owner.Own v ip) (omega arith) h
 
 uses_few : (plan : Ports) (k : Key) (r : Row) (p : Owner) → HasFields plan k r → IsIn p (uses plan k r) → length (shared_things p) ≤ most_shared k
 uses_few plan (key.Member vlan port) (row.Member tagging) p reads h = let x = from_in (lane_of plan port) (λ lane. owner.Bridge lane ∷ []) p h in only (λ z. length (shared_things z) ≤ 1) p (owner.Bridge x.0) (omega arith) x.2
-uses_few plan (key.Addr n ip len) row.Addr p reads h = address_few plan n ip p h
+uses_few plan (key.Addr n ip len) (row.Addr v) p reads h = address_few plan n v ip p h
 uses_few plan (key.Route v prefix) (row.Route t) p reads h = route_few plan t p (hops-few plan v prefix reads.0 t reads.1) h
 uses_few plan _ _ p reads h = elim h [ ]
 

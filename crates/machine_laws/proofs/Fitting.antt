@@ -1,6 +1,6 @@
 -- a good row all of whose names are applied is one of its table
 use Rattle.std.proofs.Common.{◌≡◌, ◌+◌, ◌<◌, ◌≤◌, ◌==◌, ◌&&◌, ◌∷◌, ◌++◌, ◌∙◌, ℕ, nat_le, nat_lt, Bool, true, false, cond, List, [], map, length, Option, None, Some, option_map, is_some, Result, Ok, Err, codes, refl, sym, ap, subst, arith}
-use Rattle.std.proofs.lemmas.Bool.{eqb-true, and_parts}
+use Rattle.std.proofs.lemmas.Bool.{and_from, and_parts, eqb-true}
 use Rattle.std.proofs.lemmas.List.Splits.{length-slice_split}
 use Rattle.std.specs.List.{AllByRecursion}
 use Rattle.std.specs.declared.cmp.Ordering.TheVariants.{Less, Equal, Greater}
@@ -21,7 +21,7 @@ use Rattle.table_schema.specs.Broken.{and_then, bad}
 use Rattle.table_schema.specs.Fields.{Pairs, value_of}
 use Rattle.table_schema.specs.Hop.{put_row_hop, row_hop_cmp}
 use Rattle.table_schema.specs.KeyText.{on_switch}
-use Rattle.table_schema.specs.Names.{base_names, names_of, route_names, router_names}
+use Rattle.table_schema.specs.Names.{base_names, names_of, names_of_intf, route_names, router_names}
 use Rattle.table_schema.specs.Plan.{Ports, lanes_in_plan}
 use Rattle.table_schema.specs.RouteRules.{drops_of, field_filled, route_hops_of, hop_at, hop_of_texts, hop_or_why, hops_of_texts, hops_with, is_zero, route_row_of, route_target, target_of_hops}
 use Rattle.table_schema.specs.Rules.{number_or, other_row, port_lanes, port_row_of, port_row_with, row_of, tagged_row, tagging_row, up_of}
@@ -50,6 +50,7 @@ use Rattle.sai_types.specs.Named.{both, first_lane}
 use Rattle.sai_types.proofs.Weights.{placed}
 use Rattle.switch_model.specs.Desired.{IsClosed, have_rows}
 use Rattle.switch_model.specs.Good.{TypedRows, good_row}
+use Rattle.switch_model.specs.Placed.{place}
 use Rattle.switch_model.specs.Things.{base_of, lane_of}
 use Rattle.switch_model.specs.Things as things
 use Rattle.switch_model.proofs.ReadRows.{in_router-is, lladdr_row-is, port_lanes-is, row_read_ok}
@@ -241,8 +242,8 @@ hops-few plan v prefix (Some fields) t h = let x = route_ok fields (row.Route t)
 
 -- ---- with applied rows
 
-module _ (plan : Ports) (applied : TypedRows) (fit : (q : Key) (x : Row) → applied q ≡ Some x → Fits plan q x) (closed : IsClosed applied) where
-  port_lane : (port : ℕ) (r : Row) → Fits plan (key.Port port) r → (lane : ℕ) × (lane_of plan port ≡ Some lane)
+module _ (plan : Ports) (applied : TypedRows) (fit : (q : Key) (x : Row) → applied q ≡ Some x → Fits plan q (place vrf.Default x)) (closed : IsClosed applied) where
+  port_lane : (port : ℕ) (r : Row) → Fits plan (key.Port port) (place vrf.Default r) → (lane : ℕ) × (lane_of plan port ≡ Some lane)
   port_lane port (row.Port r) h = (first_lane r.lanes, ap (option_map first_lane) h)
   port_lane port _ h = elim h [ ]
 
@@ -254,11 +255,19 @@ module _ (plan : Ports) (applied : TypedRows) (fit : (q : Key) (x : Row) → app
   base_by (name.Vlan vlan) is h = (base.Vlan vlan, refl)
   base_by (name.Loopback number) is h = absurd cc
 
+  have_left : (xs ys : List Key) → have_rows applied (xs ++ ys) ≡ true → have_rows applied xs ≡ true
+  have_left [] ys h = refl
+  have_left (x ∷ xs) ys h = let parts = and_parts (is_some (applied x)) (have_rows applied (xs ++ ys)) h in and_from (is_some (applied x)) (have_rows applied xs) parts.0 (have_left xs ys parts.1)
+
+  bases_have : (on : IfName) (r : Row) → have_rows applied (names_of_intf on r) ≡ true → have_rows applied (base_names on) ≡ true
+  bases_have on (row.Intf v) h = have_left (base_names on) (router_names v) h
+  bases_have on _ h = h
+
   -- an applied interface of the switch has what it stands on
   base_there : (on : IfName) → on_switch (Some on) ≡ Some on → is_some (applied (key.Intf on)) ≡ true → (b : Base) × (base_of plan on ≡ Some b)
-  base_there on is h = let r = there (applied (key.Intf on)) h in base_by on is (closed (key.Intf on) r.0 r.1)
+  base_there on is h = let r = there (applied (key.Intf on)) h in base_by on is (bases_have on r.0 (closed (key.Intf on) r.0 r.1))
 
-  neigh_base : (on : IfName) (ip : Ip) (r : Row) → Fits plan (key.Neigh on ip) r → (b : Base) × (base_of plan on ≡ Some b)
+  neigh_base : (on : IfName) (ip : Ip) (r : Row) → Fits plan (key.Neigh on ip) (place vrf.Default r) → (b : Base) × (base_of plan on ≡ Some b)
   neigh_base on ip (row.Neigh mac) h = h
   neigh_base on ip _ h = elim h [ ]
 
@@ -306,24 +315,24 @@ module _ (plan : Ports) (applied : TypedRows) (fit : (q : Key) (x : Row) → app
   behind_router vrf.Default names h = h
   behind_router (vrf.Named n) names h = (and_parts (is_some (applied (key.Vrf n))) (have_rows applied names) h).1
 
-  fits_by : (k : Key) (fields : Pairs) (r : Row) → IsOnSwitch k → row_of plan k fields ≡ Ok r → have_rows applied (names_of k r) ≡ true → Fits plan k r
-  fits_by (key.Port port) fields r on h names = let x = port_ok plan port fields r h in subst (Fits plan (key.Port port)) (sym x.1) x.2
-  fits_by (key.Vlan vlan) fields r on h names = subst (Fits plan (key.Vlan vlan)) (same_okay row.Vlan r h) tt
-  fits_by (key.Vrf n) fields r on h names = subst (Fits plan (key.Vrf n)) (same_okay row.Vrf r h) tt
-  fits_by (key.Member vlan port) fields r on h names =
+  fits_by : (k : Key) (fields : Pairs) (r : Row) (u : Vrf) → IsOnSwitch k → row_of plan k fields ≡ Ok r → have_rows applied (names_of k r) ≡ true → Fits plan k (place u r)
+  fits_by (key.Port port) fields r u on h names = let x = port_ok plan port fields r h in subst (λ z. Fits plan (key.Port port) (place u z)) (sym x.1) x.2
+  fits_by (key.Vlan vlan) fields r u on h names = subst (λ z. Fits plan (key.Vlan vlan) (place u z)) (same_okay row.Vlan r h) tt
+  fits_by (key.Vrf n) fields r u on h names = subst (λ z. Fits plan (key.Vrf n) (place u z)) (same_okay row.Vrf r h) tt
+  fits_by (key.Member vlan port) fields r u on h names =
       let x = tagging_ok (value_of (codes "tagging_mode") fields) r h in
       let one = and_parts (is_some (applied (key.Vlan vlan))) (is_some (applied (key.Port port)) && true) names in
       let two = and_parts (is_some (applied (key.Port port))) true one.1 in
-      subst (Fits plan (key.Member vlan port)) (sym x.1) (lane_there port two.0)
-  fits_by (key.Intf n) fields r on h names = subst (Fits plan (key.Intf n)) (sym (in_router-is (value_of (codes "vrf_name") fields) r h)) tt
-  fits_by (key.Addr n ip len) fields r on h names = subst (Fits plan (key.Addr n ip len)) (same_okay row.Addr r h) tt
-  fits_by (key.Neigh n ip) fields r on h names =
+      subst (λ z. Fits plan (key.Member vlan port) (place u z)) (sym x.1) (lane_there port two.0)
+  fits_by (key.Intf n) fields r u on h names = subst (λ z. Fits plan (key.Intf n) (place u z)) (sym (in_router-is (value_of (codes "vrf_name") fields) r h)) tt
+  fits_by (key.Addr n ip len) fields r u on h names = subst (λ z. Fits plan (key.Addr n ip len) (place u z)) (same_okay row.Addr r h) tt
+  fits_by (key.Neigh n ip) fields r u on h names =
       let x = lladdr_row-is (value_of (codes "neigh") fields) r h in
-      subst (Fits plan (key.Neigh n ip)) (sym x.1) (base_there n on (and_parts (is_some (applied (key.Intf n))) true names).0)
-  fits_by (key.Route v prefix) fields r on h names =
+      subst (λ z. Fits plan (key.Neigh n ip) (place u z)) (sym x.1) (base_there n on (and_parts (is_some (applied (key.Intf n))) true names).0)
+  fits_by (key.Route v prefix) fields r u on h names =
       let x = route_ok fields r h in
-      subst (Fits plan (key.Route v prefix)) (sym x.1) (on, route_goal x.0 x.2 (behind_router v (route_names x.0) (subst (λ z. have_rows applied (names_of (key.Route v prefix) z) ≡ true) x.1 names)))
-  fits_by (key.Other text) fields r on h names = other_bad (split_once 58 text) r h
+      subst (λ z. Fits plan (key.Route v prefix) (place u z)) (sym x.1) (on, route_goal x.0 x.2 (behind_router v (route_names x.0) (subst (λ z. have_rows applied (names_of (key.Route v prefix) z) ≡ true) x.1 names)))
+  fits_by (key.Other text) fields r u on h names = other_bad (split_once 58 text) r h
 
-  pub fits-good : (k : Key) (fields : Pairs) (r : Row) → IsOnSwitch k → good_row plan k (Some fields) ≡ Some r → have_rows applied (names_of k r) ≡ true → Fits plan k r
-  fits-good k fields r on h names = fits_by k fields r on (row_read_ok (row_of plan k fields) r h) names
+  pub fits-good : (k : Key) (fields : Pairs) (r : Row) (u : Vrf) → IsOnSwitch k → good_row plan k (Some fields) ≡ Some r → have_rows applied (names_of k r) ≡ true → Fits plan k (place u r)
+  fits-good k fields r u on h names = fits_by k fields r u on (row_read_ok (row_of plan k fields) r h) names

@@ -2,6 +2,8 @@ pub mod Rows
 pub mod Deciding
 pub mod Sharing
 pub mod Alone
+pub mod Addresses
+pub mod Between
 pub mod Four
 pub mod Fitting
 pub mod Switched
@@ -10,6 +12,7 @@ pub mod Settling
 pub mod Turning
 pub mod Waiting
 pub mod Logging
+pub mod AtRest
 pub mod Draining
 pub mod Quieting
 pub mod Unnamed

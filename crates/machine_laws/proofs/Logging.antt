@@ -12,6 +12,7 @@ use Rattle.switch_machine.specs.Written.{HasNoWrite, IsAsBefore, IsPopped, IsPop
 use Rattle.switch_machine.proofs.Runs.{kept-run}
 use Rattle.switch_machine.proofs.Telling.{told-popped}
 use Rattle.switch_model.specs.Good.{good_row, good_rows}
+use Rattle.switch_model.specs.Placed.{bare_rows}
 use Rattle.table_schema.specs.Rows.{fields_at, rows_of}
 use Rattle.machine_laws.specs.Calls.{AreTurnsWith, AreTurnsWithSoFar, Situation}
 use Rattle.machine_laws.specs.Logged.{AreLoggedEvents, ArePops, InPops, InTurns, IsInPops, IsInTurns, IsSettlingSoFar, IsWholeSettling, LoggedSwitch, LogsMark, after_logged, after_pops}
@@ -95,7 +96,7 @@ module _ (plan : Ports) (workers : ℕ) (capacities : List ℕ) where
   pops_machine s [] run = (refl, λ h. h)
   pops_machine s (t ∷ ts) run =
       let y = pops_machine t ts run.1 in (
-        y.0 ∙ ap (λ z. record { applied = z.board.applied; stands = z.stands; made = t.made }) run.0.machine ∙ ap (λ z. record { applied = s.machine.board.applied; stands = s.machine.stands; made = z }) run.0.made,
+        y.0 ∙ ap (λ z. record { applied = bare_rows z.board.applied; stands = z.stands; made = t.made }) run.0.machine ∙ ap (λ z. record { applied = bare_rows s.machine.board.applied; stands = s.machine.stands; made = z }) run.0.made,
         λ h. y.1 (subst (λ z. (w : ℕ) (f : MachineFlight) → z.board.flights w ≡ Some f → ⊥) (sym run.0.machine) h),
       )
 

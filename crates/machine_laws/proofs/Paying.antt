@@ -8,16 +8,18 @@ use Rattle.sai_types.specs.declared.ids.Rid.{Rid}
 use Rattle.sai_types.specs.declared.body.Call.{Call}
 use Rattle.sai_types.specs.Alike.{IsIn}
 use Rattle.switch_model.specs.Marks.{written_key}
+use Rattle.switch_model.specs.Placed.{bare_rows, router_in}
 use Rattle.row_layout.specs.Operations.{Change, shared_going, take_all}
 use Rattle.row_layout.specs.Rows.{Owner}
 use Rattle.switch_machine.specs.Events.{AreAnswers, AreEvents, Due, Ended, Follows, IsAnswer, IsBegin, IsDrop, IsDueCall, IsEvent, IsPop, IsQuiet, IsSafe, IsTake, Left, Popped, PopsKey, Retires, Stays, SwitchState, after_events, calls_of, empty_switch, with_made_call}
 use Rattle.switch_machine.specs.Flights.{MachineFlight, Machine, put}
 use Rattle.switch_machine.specs.Places.{sum_below}
 use Rattle.switch_machine.specs.Steps.{finished, left, moved, parted, started}
-use Rattle.switch_machine.specs.Written.{HasNoWrite}
+use Rattle.switch_machine.specs.Written.{HasNoWrite, good_of}
 use Rattle.switch_machine.proofs.Roomy.{sum_least, sum_put}
 use Rattle.switch_machine.proofs.Runs.{kept-empty, kept-run}
 use Rattle.switch_machine.proofs.Splits.{IsSplit, key_split, put_at, put_off}
+use Rattle.switch_machine.proofs.Placing.{placed_row}
 use Rattle.machine_laws.proofs.Completing.{going_length}
 use Rattle.machine_laws.proofs.Few.{HasReadRow, operation-few}
 use Rattle.machine_laws.proofs.Sharing.{fields_beside}
@@ -101,7 +103,7 @@ begun-left plan workers capacities s t kept x =
     old r at = let y = kept.good k r (inl at) in (fields_at (rows_of (take y.0 s.written.taken)) k, y.2)
 
     new : HasReadRow plan k x.flight.new
-    new r at = (s.written.rows k, sym x.new ∙ at)
+    new r at = (s.written.rows k, placed_row (router_in (bare_rows s.machine.board.applied) k) (good_of plan s.written k) r (sym x.new ∙ at))
 
 -- ---- credit
 

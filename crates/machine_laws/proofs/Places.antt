@@ -3,7 +3,8 @@ use Rattle.std.proofs.Common.{◌≡◌, ◌⊎◌, ◌+◌, ◌<◌, ◌≤◌,
 use Rattle.swss_types.proofs.Most.{most_or_more}
 use Rattle.table_schema.specs.Plan.{Ports}
 use Rattle.table_schema.specs.declared.key.Key.{Key}
-use Rattle.table_schema.specs.declared.row.Row.{Row}
+use Rattle.table_schema.specs.declared.row.Row.{Row as BareRow}
+use Rattle.switch_model.specs.Placed.{Placed as Row, bare_rows, place, router_in}
 use Rattle.sai_types.specs.declared.kind.Kind.{Kind}
 use Rattle.sai_types.specs.declared.kind.Kind.TheVariants as kind
 use Rattle.sai_types.specs.Alike.{IsIn}
@@ -61,7 +62,7 @@ module _ (plan : Ports) (workers : ℕ) (capacities : List ℕ) (s : SwitchState
             one low (inr more) h = let same : level low ≡ n = omega (arith, more, h) in subst Fit (ap of_level (sym same) ∙ kind_at low) fit
 
   -- a row that is to come has room, or a first kind lacks it
-  pub room-or : (w : ℕ) (f : MachineFlight) (due : List Change) → MayBegin plan s.machine w f due → (row : Row) → f.new ≡ Some row → good_of plan s.written f.key ≡ Some row → HasRoomFor workers capacities s.objects s.machine due ⊎ ((kind : Kind) × LacksRoom plan workers capacities s f.key kind)
+  pub room-or : (w : ℕ) (f : MachineFlight) (due : List Change) → MayBegin plan s.machine w f due → (row : BareRow) → f.new ≡ Some (place (router_in (bare_rows s.machine.board.applied) f.key) row) → good_of plan s.written f.key ≡ Some row → HasRoomFor workers capacities s.objects s.machine due ⊎ ((kind : Kind) × LacksRoom plan workers capacities s f.key kind)
   room-or w f due begins row new good = by (scan due (length all_kinds))
     where
       by : ((low : Kind) → level low < length all_kinds → Fit due low) ⊎ Lacks due → HasRoomFor workers capacities s.objects s.machine due ⊎ ((kind : Kind) × LacksRoom plan workers capacities s f.key kind)

@@ -1,7 +1,6 @@
 -- a settling of the machine, by operations run alone: its rows and its calls are those of turns over rows; cut off, those of turns that are cut off
-use Rattle.std.proofs.Common.{◌≡◌, ◌⊎◌, ◌+◌, ◌≤◌, ◌∷◌, ◌++◌, ◌∙◌, inl, inr, ℕ, zero, suc, Bool, List, [], Option, None, Some, is_some, refl, sym, ap, subst, arith}
+use Rattle.std.proofs.Common.{◌≡◌, ◌⊎◌, ◌+◌, ◌≤◌, ◌∷◌, ◌++◌, ◌∙◌, inl, inr, ℕ, zero, suc, Bool, List, [], Option, None, Some, option_map, refl, sym, ap, ap₂, subst, arith}
 use Rattle.std.proofs.lemmas.List.{append_assoc}
-use Rattle.table_schema.specs.Names.{names_of}
 use Rattle.table_schema.specs.Plan.{Ports, IsPlan}
 use Rattle.table_schema.specs.declared.key.Key.{Key}
 use Rattle.table_schema.specs.declared.row.Row.{Row}
@@ -12,21 +11,26 @@ use Rattle.sai_types.specs.Made.{made_after_all}
 use Rattle.sai_types.specs.Objects.{used as on_chip}
 use Rattle.sai_types.specs.Refusal.{capacity_of}
 use Rattle.switch_model.specs.Good.{TypedRows}
-use Rattle.switch_model.specs.Marks.{IsTrueReason, first_missing}
+use Rattle.switch_model.specs.Marks.{IsTrueReason}
+use Rattle.switch_model.specs.Placed.{Placed, bare, bare_rows, place, placed_rows, router_in}
 use Rattle.switch_model.specs.Turns.{HasReason, with_good}
 use Rattle.switch_model.specs.declared.wait.Wait.{Wait}
 use Rattle.switch_model.specs.declared.wait.Wait.TheVariants as wait
 use Rattle.row_layout.specs.Operations.{Change, changes_of}
 use Rattle.row_layout.specs.Rows.{Owner}
 use Rattle.row_layout.proofs.Changing.{changes-same}
-use Rattle.switch_machine.specs.Events.{AreAnswers, SwitchState, IsSafe, IsQuiet, after_answers, changes_made}
-use Rattle.switch_machine.specs.Flights.{MachineFlight, Machine, goes_over}
+use Rattle.switch_machine.specs.Consistent.{IsOrderly}
+use Rattle.switch_machine.specs.Events.{AreAnswers, SwitchState, IsSafe, IsQuiet, after_answers, changes_made, placed_good}
+use Rattle.switch_machine.specs.Flights.{MachineBoard, MachineFlight, Machine}
+use Rattle.switch_machine.specs.Operations.{IsUsedByOthers}
 use Rattle.switch_machine.specs.Places.{makes}
 use Rattle.switch_machine.specs.Reasons.{IsReason}
 use Rattle.switch_machine.specs.Steps.{started, with_row}
 use Rattle.switch_machine.specs.Written.{Written, good_of}
+use Rattle.switch_machine.proofs.Hindered.{not_held, not_missing}
 use Rattle.switch_machine.proofs.Kept.{kept-answers}
 use Rattle.switch_machine.proofs.Overflowing.{no-overflow}
+use Rattle.switch_machine.proofs.Placing.{bares, own_place}
 use Rattle.switch_machine.proofs.Reasoned.{reason-true}
 use Rattle.switch_machine.proofs.Runs.{kept-run}
 use Rattle.switch_machine.proofs.Sequence.{sequence, sequence-so-far}
@@ -36,7 +40,7 @@ use Rattle.machine_laws.specs.Calls.{AreCallsOf, AreChangesOf, AreFirstCallsOf, 
 use Rattle.machine_laws.specs.Settling.{AreMachineTurns, AreMachineTurnsSoFar, DropsKey, IsMachineTurn, IsMachineTurnSoFar, IsSituationOf, RunsAlone, RunsSoFar, situation}
 use Rattle.machine_laws.proofs.Alone.{AreTried, DueCall, NoCall, alone-so-far, calls-made, calls_in, first-calls, follows-stands}
 use Rattle.machine_laws.proofs.Dropping.{same-no_reason}
-use Rattle.machine_laws.proofs.Rows.{AreSameRows, no_some, none_missing, reason-same}
+use Rattle.machine_laws.proofs.Rows.{AreSameRows, bare_with, reason-same, router_same}
 use Rattle.machine_laws.proofs.Sharing.{others-use, used-by}
 
 pub record Rests (plan : Ports) (workers : ℕ) (capacities : List ℕ) (written : Written) (t : SwitchState) : Type 0 where
@@ -44,18 +48,35 @@ pub record Rests (plan : Ports) (workers : ℕ) (capacities : List ℕ) (written
   pub quiet : IsQuiet t
   pub same : t.written ≡ written
 
+pub placed_same : (a b : TypedRows) → AreSameRows a b → (q : Key) → placed_rows a q ≡ placed_rows b q
+placed_same a b same q = ap₂ (λ v o. option_map (place v) o) (router_same a b same q) (same q)
+
+-- the applied rows are in their places
+pub restored : (plan : Ports) (b : MachineBoard) → IsOrderly plan b → (q : Key) → placed_rows (bare_rows b.applied) q ≡ b.applied q
+restored plan b orderly q = by (b.applied q) refl
+  where
+    by : (o : Option Placed) → b.applied q ≡ o → placed_rows (bare_rows b.applied) q ≡ b.applied q
+    by None e = ap (λ o. option_map (place (router_in (bare_rows b.applied) q)) (option_map bare o)) e ∙ sym e
+    by (Some y) e = ap (λ o. option_map (place (router_in (bare_rows b.applied) q)) (option_map bare o)) e ∙ ap Some (sym (own_place plan b orderly q y e)) ∙ sym e
+
+over_placed : (plan : Ports) (b : MachineBoard) → IsOrderly plan b → (k : Key) (used : Owner → Bool) → IsUsedByOthers plan b.applied k used → IsUsedByOthers plan (placed_rows (bare_rows b.applied)) k used
+over_placed plan b orderly k used x = record {
+  yes = λ o h. let y = x.yes o h in (y.0, y.1, y.2, restored plan b orderly y.0 ∙ y.3, y.4);
+  no = λ o h q r apart at. x.no o h q r apart (sym (restored plan b orderly q) ∙ at);
+}
+
 -- the changes of a key over the same rows
 changes_over : (plan : Ports) (a b : TypedRows) (k : Key) (new : Option Row) (changes : List Change) → AreSameRows a b → AreChangesOf plan a k new changes → AreChangesOf plan b k new changes
 changes_over plan a b k new changes same x = record {
   used = x.used;
   by_others = record {
-    yes = λ o h. let y = x.by_others.yes o h in (y.0, y.1, y.2, sym (same y.0) ∙ y.3, y.4);
-    no = λ o h q r apart at. x.by_others.no o h q r apart (same q ∙ at);
+    yes = λ o h. let y = x.by_others.yes o h in (y.0, y.1, y.2, sym (placed_same a b same y.0) ∙ y.3, y.4);
+    no = λ o h q r apart at. x.by_others.no o h q r apart (placed_same a b same q ∙ at);
   };
-  is = x.is ∙ ap (λ z. changes_of plan k z new x.used) (same k);
+  is = x.is ∙ ap₂ (λ z n. changes_of plan k z n x.used) (placed_same a b same k) (ap (λ v. option_map (place v) new) (router_same a b same k));
 }
 
-no_changes : (plan : Ports) (k : Key) (o : Option Row) (used : Owner → Bool) → changes_of plan k o o used ≡ []
+no_changes : (plan : Ports) (k : Key) (o : Option Placed) (used : Owner → Bool) → changes_of plan k o o used ≡ []
 no_changes plan k None used = refl
 no_changes plan k (Some r) used = changes-same plan k r used
 
@@ -69,6 +90,9 @@ module _ (plan : Ports) (is : IsPlan plan) (workers : ℕ) (capacities : List �
   module _ (k : Key) (s t : SwitchState) (calls : List (Call Rid)) (kept : IsSafe plan workers capacities s) (quiet : IsQuiet s) where
     abbrev good : TypedRows
     good = good_of plan s.written
+
+    abbrev rows : TypedRows
+    rows = bare_rows s.machine.board.applied
 
     -- ---- a key that has its good row already
 
@@ -91,11 +115,11 @@ module _ (plan : Ports) (is : IsPlan plan) (workers : ℕ) (capacities : List �
       first_safe : IsSafe plan workers capacities x.first
       first_safe = kept-run plan is workers capacities s ((None, x.first) ∷ []) kept (inr (inr (inr x.starting)), tt)
 
-      begun_changes : (changes : List Change) → changes ≡ changes_of plan f.key (s.machine.board.applied f.key) f.new used → AreChangesOf plan s.machine.board.applied k (good k) changes
-      begun_changes changes e = subst (λ q. AreChangesOf plan s.machine.board.applied q (good q) changes) x.is (record {
+      begun_changes : (changes : List Change) → changes ≡ changes_of plan f.key (s.machine.board.applied f.key) f.new used → AreChangesOf plan rows k (good k) changes
+      begun_changes changes e = subst (λ q. AreChangesOf plan rows q (good q) changes) x.is (record {
         used = used;
-        by_others = others-use plan workers capacities s kept f.key;
-        is = e ∙ ap (λ z. changes_of plan f.key (s.machine.board.applied f.key) z used) x.starting.new;
+        by_others = over_placed plan s.machine.board kept.sound.board f.key used (others-use plan workers capacities s kept f.key);
+        is = e ∙ ap₂ (λ z n. changes_of plan f.key z n used) (sym (restored plan s.machine.board kept.sound.board f.key)) x.starting.new;
       })
 
       -- what stands when it has begun stood before
@@ -110,15 +134,15 @@ module _ (plan : Ports) (is : IsPlan plan) (workers : ℕ) (capacities : List �
           let first = first-calls plan workers x.first x.answers x.are y.0 more (subst (λ v. AreTried workers v more) x.last tried) y.2 in
           record {
             changes = changes;
-            are = changes_over plan s.machine.board.applied z.applied k (good k) changes (λ q. sym (agrees.rows q)) (begun_changes changes y.1);
+            are = changes_over plan rows z.applied k (good k) changes (λ q. sym (agrees.rows q)) (begun_changes changes y.1);
             calls_are = subst (λ v. AreFirstCallsOf z.stands z.made changes (v ++ more)) (sym x.calls_are) (from_first (λ stands made. AreFirstCallsOf stands made changes (calls_in x.answers ++ more)) z agrees first);
           }
 
       -- of its key no reason was true
-      begun-no_reason : (w : Wait) → IsTrueReason plan capacities good s.machine.board.applied f.key w → ⊥
-      begun-no_reason (wait.Missing p) (r, at, h) = no_some (first_missing s.machine.board.applied (names_of f.key r)) p (none_missing s.machine.board.applied (names_of f.key r) (λ q in_it. ap is_some (x.starting.begins.named q r (x.starting.new ∙ at) in_it).applied)) h
-      begun-no_reason (wait.Held h) (none, r, at, held) = x.starting.begins.unnamed (x.starting.begins.goes ∙ ap (goes_over f.key (s.machine.board.applied f.key)) (x.starting.new ∙ none)) h held.row (inl held.applied_row) held.names
-      begun-no_reason (wait.NoRoom kind) (r, at, have, over) = no-overflow plan is capacities s.machine kept.sound quiet s.made s.objects kept.whole kept.laid x.starting.worker f x.starting.due x.starting.begins r (x.starting.new ∙ at) kind (fits (makes kind x.starting.due) refl) over
+      begun-no_reason : (w : Wait) → IsTrueReason plan capacities good rows f.key w → ⊥
+      begun-no_reason (wait.Missing p) (r, at, h) = not_missing plan is workers capacities s x.starting.worker f x.starting.due x.starting.begins x.starting.new p (x.starting.begins.rests, (r, at, h))
+      begun-no_reason (wait.Held h) (to_go, r, at, held) = not_held plan is workers capacities s x.starting.worker f x.starting.due x.starting.begins x.starting.new h (x.starting.begins.rests, to_go, (r, at, held))
+      begun-no_reason (wait.NoRoom kind) (r, at, have, over) = no-overflow plan is capacities s.machine kept.sound quiet s.made s.objects kept.whole kept.laid x.starting.worker f x.starting.due x.starting.begins r (x.starting.new ∙ ap (option_map (place (router_in rows f.key))) at) kind (fits (makes kind x.starting.due) refl) over
         where
           fits : (n : ℕ) → makes kind x.starting.due ≡ n → on_chip s.objects kind + makes kind x.starting.due ≤ capacity_of capacities kind
           fits zero e = let p = kept.places kind in omega (arith, e, p)
@@ -126,7 +150,7 @@ module _ (plan : Ports) (is : IsPlan plan) (workers : ℕ) (capacities : List �
       begun-no_reason (wait.Busy v) h = h
 
       no_reason : (z : Situation) → IsSituationOf z s → HasReason plan capacities good z.applied k → ⊥
-      no_reason z agrees h = begun-no_reason h.0 (subst (λ v. IsTrueReason plan capacities good s.machine.board.applied v h.0) (sym x.is) (reason-same plan capacities good z.applied s.machine.board.applied agrees.rows k h.0 h.1))
+      no_reason z agrees h = begun-no_reason h.0 (subst (λ v. IsTrueReason plan capacities good rows v h.0) (sym x.is) (reason-same plan capacities good z.applied rows agrees.rows k h.0 h.1))
 
     -- ---- and to its end
 
@@ -142,7 +166,7 @@ module _ (plan : Ports) (is : IsPlan plan) (workers : ℕ) (capacities : List �
       abbrev changes : List Change
       changes = changes_made plan workers x.first x.answers x.are
 
-      alone_changes : AreChangesOf plan s.machine.board.applied k (good k) changes
+      alone_changes : AreChangesOf plan rows k (good k) changes
       alone_changes = begun_changes so_far changes (sequence plan workers capacities s x.first x.starting x.answers x.are (used so_far) quiet x.quiet (others-use plan workers capacities s kept x.starting.flight.key))
 
       alone_calls : (z : Situation) → IsSituationOf z s → AreCallsOf z.stands z.made changes calls t.machine.stands
@@ -156,15 +180,23 @@ module _ (plan : Ports) (is : IsPlan plan) (workers : ℕ) (capacities : List �
           ∙ ap (made_after_all s.made) (sym x.calls_are)
 
       -- the rows after it
-      ran_rows : (a : TypedRows) → AreSameRows a s.machine.board.applied → AreSameRows (with_good good a k) t.machine.board.applied
+      ran_rows : (a : TypedRows) → AreSameRows a rows → AreSameRows (with_good good a k) (bare_rows t.machine.board.applied)
       ran_rows a same q = by (key_split k q)
         where
-          now : t.machine.board.applied q ≡ with_row k (good k) s.machine.board.applied q
-          now = ap (λ (z : SwitchState). z.machine.board.applied q) x.last ∙ solo-key plan workers capacities s x.first x.starting x.answers quiet x.are x.quiet q ∙ ap (λ z. with_row z (good z) s.machine.board.applied q) x.is
+          own : Key
+          own = x.starting.flight.key
 
-          by : IsSplit k q → with_good good a k q ≡ t.machine.board.applied q
-          by (inl e) = row_at k q (good q) a e ∙ ap good (sym e) ∙ sym (row_at k q (good k) s.machine.board.applied e) ∙ sym now
-          by (inr h) = row_off k q (good q) a h ∙ same q ∙ sym (row_off k q (good k) s.machine.board.applied h) ∙ sym now
+          now : bare_rows t.machine.board.applied q ≡ with_row k (good k) rows q
+          now =
+              ap (λ (z : SwitchState). bare_rows z.machine.board.applied q) x.last
+              ∙ ap (option_map bare) (solo-key plan workers capacities s x.first x.starting x.answers quiet x.are x.quiet q)
+              ∙ bare_with own (placed_good plan s.machine.board s.written own) s.machine.board.applied q
+              ∙ ap (λ o. with_row own o rows q) (bares (router_in rows own) (good own))
+              ∙ ap (λ z. with_row z (good z) rows q) x.is
+
+          by : IsSplit k q → with_good good a k q ≡ bare_rows t.machine.board.applied q
+          by (inl e) = row_at k q (good q) a e ∙ ap good (sym e) ∙ sym (row_at k q (good k) rows e) ∙ sym now
+          by (inr h) = row_off k q (good q) a h ∙ same q ∙ sym (row_off k q (good k) rows h) ∙ sym now
 
     -- a key that leaves has its good row then, after the calls of its operation, and no reason was true of it
     record Left (z : Situation) : Type 0 where
@@ -179,38 +211,38 @@ module _ (plan : Ports) (is : IsPlan plan) (workers : ℕ) (capacities : List �
       then = then;
       so = record {
         changes = [];
-        are = changes_over plan s.machine.board.applied z.applied k (good k) [] (λ q. sym (agrees.rows q)) (record {
+        are = changes_over plan rows z.applied k (good k) [] (λ q. sym (agrees.rows q)) (record {
           used = used-by plan workers capacities s kept k;
-          by_others = others-use plan workers capacities s kept k;
-          is = sym (no_changes plan k (good k) (used-by plan workers capacities s kept k)) ∙ ap (λ v. changes_of plan k v (good k) (used-by plan workers capacities s kept k)) (sym same);
+          by_others = over_placed plan s.machine.board kept.sound.board k (used-by plan workers capacities s kept k) (others-use plan workers capacities s kept k);
+          is = sym (no_changes plan k (placed_rows rows k) (used-by plan workers capacities s kept k)) ∙ ap (λ o. changes_of plan k (placed_rows rows k) (option_map (place (router_in rows k)) o) (used-by plan workers capacities s kept k)) same;
         });
         calls_are = (x.none, refl);
         applied = refl;
         made = ap (made_after_all z.made) (sym x.none);
       };
       agrees = record {
-        rows = λ q. by q (key_split k q) ∙ ap (λ (v : Machine). v.board.applied q) (sym x.drop.machine);
+        rows = λ q. by q (key_split k q) ∙ ap (λ (v : Machine). bare_rows v.board.applied q) (sym x.drop.machine);
         stands = agrees.stands ∙ ap (λ (v : Machine). v.stands) (sym x.drop.machine);
         made = agrees.made ∙ sym x.drop.made;
       };
       rest = dropped x;
-      none = λ h. same-no_reason plan is workers capacities s kept quiet k same h.0 (reason-same plan capacities good z.applied s.machine.board.applied agrees.rows k h.0 h.1);
+      none = λ h. same-no_reason plan is workers capacities s kept quiet k same h.0 (reason-same plan capacities good z.applied rows agrees.rows k h.0 h.1);
     }
       where
-        same : s.machine.board.applied k ≡ good k
-        same = subst (λ q. s.machine.board.applied q ≡ good q) x.is x.drop.same
+        same : rows k ≡ good k
+        same = subst (λ q. rows q ≡ good q) x.is x.drop.same
 
         then : Situation
         then = record { applied = with_good good z.applied k; stands = z.stands; made = z.made }
 
-        by : (q : Key) → IsSplit k q → with_good good z.applied k q ≡ s.machine.board.applied q
-        by q (inl e) = row_at k q (good q) z.applied e ∙ subst (λ v. good v ≡ s.machine.board.applied v) e (sym same)
+        by : (q : Key) → IsSplit k q → with_good good z.applied k q ≡ rows q
+        by q (inl e) = row_at k q (good q) z.applied e ∙ subst (λ v. good v ≡ rows v) e (sym same)
         by q (inr h) = row_off k q (good q) z.applied h ∙ agrees.rows q
     left_when_done z agrees (inr x) = record {
       then = record { applied = with_good good z.applied k; stands = t.machine.stands; made = made_after_all z.made calls };
       so = record {
         changes = changes x;
-        are = changes_over plan s.machine.board.applied z.applied k (good k) (changes x) (λ q. sym (agrees.rows q)) (alone_changes x);
+        are = changes_over plan rows z.applied k (good k) (changes x) (λ q. sym (agrees.rows q)) (alone_changes x);
         calls_are = alone_calls x z agrees;
         applied = refl;
         made = refl;
@@ -233,7 +265,7 @@ module _ (plan : Ports) (is : IsPlan plan) (workers : ℕ) (capacities : List �
 
   -- a reason of the machine is one over rows
   left_reason : (s : SwitchState) (z : Situation) → IsSafe plan workers capacities s → IsQuiet s → IsSituationOf z s → (k : Key) (w : Wait) → IsReason plan workers capacities s k w → HasReason plan capacities (good_of plan s.written) z.applied k
-  left_reason s z kept quiet agrees k w reason = (w, reason-same plan capacities (good_of plan s.written) s.machine.board.applied z.applied (λ q. sym (agrees.rows q)) k w (reason-true plan is workers capacities s kept quiet k w reason))
+  left_reason s z kept quiet agrees k w reason = (w, reason-same plan capacities (good_of plan s.written) (bare_rows s.machine.board.applied) z.applied (λ q. sym (agrees.rows q)) k w (reason-true plan is workers capacities s kept quiet k w reason))
 
   turn : (ks : List Key) (s t : SwitchState) (left : List Key) (calls : List (Call Rid)) (z : Situation) → IsSafe plan workers capacities s → IsQuiet s → IsSituationOf z s → IsMachineTurn plan workers capacities s ks t left calls → Comes (λ y. IsTurnWith plan capacities (good_of plan s.written) z ks y left calls) s.written t
   turn [] s t left calls z kept quiet agrees (e, none, no_call) = let y = same_state z s t kept quiet agrees e in record { then = y.then; so = (y.so, none, no_call); agrees = y.agrees; rest = y.rest }

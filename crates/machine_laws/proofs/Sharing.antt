@@ -14,8 +14,9 @@ use Rattle.table_schema.specs.declared.write.Write.{Write}
 use Rattle.table_schema.specs.declared.write.Write.TheVariants as write
 use Rattle.table_schema.proofs.Keys.{key_exact}
 use Rattle.sai_types.specs.Alike.{IsIn}
-use Rattle.switch_model.specs.Good.{TypedRows, good_row}
+use Rattle.switch_model.specs.Good.{good_row}
 use Rattle.switch_model.specs.Marks.{written_key}
+use Rattle.switch_model.specs.Placed.{PlacedRows, bare}
 use Rattle.row_layout.specs.Operations.{uses_of}
 use Rattle.row_layout.specs.Rows.{Owner}
 use Rattle.switch_machine.specs.Events.{IsSafe, SwitchState}
@@ -83,7 +84,7 @@ written-once plan taken k r (n, le, h) = by (key_listed_decided k (AreKeys (take
 -- ---- uses of other rows
 
 module _ (plan : Ports) (workers : ℕ) (capacities : List ℕ) (s : SwitchState) (kept : IsSafe plan workers capacities s) (k : Key) where
-  abbrev rows : TypedRows
+  abbrev rows : PlacedRows
   rows = s.machine.board.applied
 
   abbrev IsOther : Owner → Key → Type 0
@@ -99,5 +100,5 @@ module _ (plan : Ports) (workers : ℕ) (capacities : List ℕ) (s : SwitchState
   pub others-use : IsUsedByOthers plan rows k used-by
   others-use = record {
     yes = λ o h. let x = so_told (decided o) h in let r = use_row_in plan x.0 (rows x.0) o x.2.1 in (x.0, r.0, x.2.0, r.1, r.2);
-    no = λ o h q r apart at used. false≢true (sym h ∙ so_found (decided o) (q, written-once plan s.written.taken q r (kept.good q r (inl at)), (apart, subst (λ z. IsIn o (uses_of plan q z)) (sym at) used)));
+    no = λ o h q r apart at used. false≢true (sym h ∙ so_found (decided o) (q, written-once plan s.written.taken q (bare r) (kept.good q r (inl at)), (apart, subst (λ z. IsIn o (uses_of plan q z)) (sym at) used)));
   }

@@ -19,6 +19,7 @@ use Rattle.switch_model.specs.Promises.{AreTrueMarks, IsSettled, MarksAreTrue, g
 use Rattle.switch_model.specs.Sound.{AreWithin}
 use Rattle.switch_model.specs.declared.mark.Mark.{Mark}
 use Rattle.switch_model.specs.declared.mark.MarkEvent.TheVariants as event
+use Rattle.switch_model.specs.Placed.{bare_rows}
 use Rattle.switch_machine.specs.Events.{SwitchState, IsEvent, IsSafe, IsQuiet, with_made_call}
 use Rattle.switch_machine.specs.Written.{good_of}
 use Rattle.switch_machine.proofs.Runs.{alike-quiet, good-quiet, kept-empty, kept-run, legal-run}
@@ -30,36 +31,36 @@ use Rattle.machine_laws.proofs.Rows.{AreSameRows, good-same, have_same, kind-sam
 
 module _ (plan : Ports) (is : IsPlan plan) (workers : ℕ) (capacities : List ℕ) where
   module _ (s : SwitchState) (kept : IsSafe plan workers capacities s) (quiet : IsQuiet s) (good : TypedRows) (same_good : AreSameRows (good_of plan s.written) good) where
-    rows_at : (waits : Waiting) (q : Key) → AreListed plan workers capacities s waits → ((ListsKey q waits → ⊥) → s.machine.board.applied q ≡ good q) → applied_rows waits good q ≡ s.machine.board.applied q
+    rows_at : (waits : Waiting) (q : Key) → AreListed plan workers capacities s waits → ((ListsKey q waits → ⊥) → bare_rows s.machine.board.applied q ≡ good q) → applied_rows waits good q ≡ bare_rows s.machine.board.applied q
     rows_at [] q listed f = sym (f (λ h. h))
     rows_at (w ∷ ws) q listed f = by (rows_at ws q listed.2) (key_split q w.0)
       where
-        by : (((ListsKey q ws → ⊥) → s.machine.board.applied q ≡ good q) → applied_rows ws good q ≡ s.machine.board.applied q) → IsSplit q w.0 → applied_rows (w ∷ ws) good q ≡ s.machine.board.applied q
-        by rest (inl e) = row_at q w.0 w.2 (λ z. applied_rows ws good q) e ∙ listed.1 ∙ ap s.machine.board.applied (sym e)
+        by : (((ListsKey q ws → ⊥) → bare_rows s.machine.board.applied q ≡ good q) → applied_rows ws good q ≡ bare_rows s.machine.board.applied q) → IsSplit q w.0 → applied_rows (w ∷ ws) good q ≡ bare_rows s.machine.board.applied q
+        by rest (inl e) = row_at q w.0 w.2 (λ z. applied_rows ws good q) e ∙ listed.1 ∙ ap (bare_rows s.machine.board.applied) (sym e)
         by rest (inr apart) = row_off q w.0 w.2 (λ z. applied_rows ws good q) apart ∙ rest (λ none. f (λ h. other none h))
           where
             other : (ListsKey q ws → ⊥) → (w.0 ≡ q) ⊎ ListsKey q ws → ⊥
             other none (inl e) = apart (sym e)
             other none (inr h) = none h
 
-    module _ (rows : TypedRows) (same : AreSameRows s.machine.board.applied rows) where
+    module _ (rows : TypedRows) (same : AreSameRows (bare_rows s.machine.board.applied) rows) where
       reasons_true : (waits : Waiting) → AreListed plan workers capacities s waits → ReasonsAreTrue plan capacities good rows waits
       reasons_true [] listed = tt
-      reasons_true (w ∷ ws) (reason, row, listed) = (good-same plan capacities (good_of plan s.written) good rows w.0 w.1 (same_good w.0) (reason-same plan capacities (good_of plan s.written) s.machine.board.applied rows same w.0 w.1 (reason-true plan is workers capacities s kept quiet w.0 w.1 reason)), reasons_true ws listed)
+      reasons_true (w ∷ ws) (reason, row, listed) = (good-same plan capacities (good_of plan s.written) good rows w.0 w.1 (same_good w.0) (reason-same plan capacities (good_of plan s.written) (bare_rows s.machine.board.applied) rows same w.0 w.1 (reason-true plan is workers capacities s kept quiet w.0 w.1 reason)), reasons_true ws listed)
 
       kinds_first : (waits : Waiting) → AreListed plan workers capacities s waits → NameFirstKinds plan capacities good rows waits
       kinds_first [] listed = tt
-      kinds_first (w ∷ ws) (reason, row, listed) = (kind-same plan capacities (good_of plan s.written) good s.machine.board.applied rows w.0 w.1 same (same_good w.0) (reason-first plan is workers capacities s kept quiet w.0 w.1 reason), kinds_first ws listed)
+      kinds_first (w ∷ ws) (reason, row, listed) = (kind-same plan capacities (good_of plan s.written) good (bare_rows s.machine.board.applied) rows w.0 w.1 same (same_good w.0) (reason-first plan is workers capacities s kept quiet w.0 w.1 reason), kinds_first ws listed)
 
       closed_rows : IsClosed rows
-      closed_rows k r at = sym (have_same s.machine.board.applied rows same (names_of k r)) ∙ closed plan is workers capacities s kept k r (same k ∙ at)
+      closed_rows k r at = sym (have_same (bare_rows s.machine.board.applied) rows same (names_of k r)) ∙ closed plan is workers capacities s kept k r (same k ∙ at)
 
       alike_rows : IsAlike s.objects (IsThingOf plan rows)
       alike_rows =
           let x = alike-quiet plan is workers capacities s kept quiet in
           record {
-            each = λ t h. let y = x.each t h in (y.0, y.1, thing_same plan s.machine.board.applied rows same y.0 y.2);
-            once = λ t h. x.once t (thing_same plan rows s.machine.board.applied (λ q. sym (same q)) t h);
+            each = λ t h. let y = x.each t h in (y.0, y.1, thing_same plan (bare_rows s.machine.board.applied) rows same y.0 y.2);
+            once = λ t h. x.once t (thing_same plan rows (bare_rows s.machine.board.applied) (λ q. sym (same q)) t h);
           }
 
   pub record Told (s : LoggedSwitch) : Type 0 where
@@ -89,7 +90,7 @@ module _ (plan : Ports) (is : IsPlan plan) (workers : ℕ) (capacities : List �
       same_good : AreSameRows (good_of plan s.switch.written) good
       same_good k = ap (good_row plan k) (sym (x.popped k (s.switch.written.rows k)) ∙ sym (told.kept.told k) ∙ ap (λ z. fields_at (rows_of z) k) told.taken ∙ ap (λ z. fields_at (rows_of (sent_writes z)) k) (sym (take-length s.log.taken)))
 
-      same : AreSameRows s.switch.machine.board.applied rows
+      same : AreSameRows (bare_rows s.switch.machine.board.applied) rows
       same q = sym (rows_at s.switch told.kept x.quiet good same_good x.waits q x.listed (λ none. good-quiet plan is workers capacities s.switch told.kept x.quiet q (λ h. none (x.all q h)) ∙ same_good q))
 
   told_mark : (s t : LoggedSwitch) → Told s → LogsMark plan workers capacities s t → Told t

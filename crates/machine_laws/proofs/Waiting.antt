@@ -7,6 +7,7 @@ use Rattle.sai_types.specs.declared.body.Call.{Call}
 use Rattle.sai_types.specs.Alike.{IsIn}
 use Rattle.switch_model.specs.Marks.{Waiting}
 use Rattle.switch_model.specs.declared.wait.Wait.{Wait}
+use Rattle.switch_model.specs.Placed.{bare_rows}
 use Rattle.switch_machine.specs.Events.{AreAnswers, SwitchState, after_answers}
 use Rattle.switch_machine.specs.Reasons.{IsReason}
 use Rattle.machine_laws.specs.Settling.{AreMachineTurns, DropsKey, IsMachineTurn, RunsAlone}
@@ -117,7 +118,7 @@ module _ (plan : Ports) (workers : ℕ) (capacities : List ℕ) where
       let y = listing t ks (λ q h. f q (inr h)) in
       let w = f k (inl refl) in
       record {
-        waits = (k, w.0, t.machine.board.applied k) ∷ y.waits;
+        waits = (k, w.0, bare_rows t.machine.board.applied k) ∷ y.waits;
         listed = (w.1, refl, y.listed);
         all = λ q h. all y q h;
         only = λ q h. only y q h;

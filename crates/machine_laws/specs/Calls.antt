@@ -1,5 +1,5 @@
 -- The calls of an operation and of turns, over rows and what stands. The orders of calls are those of SONiC's orchestration agent. Own.
-use Rattle.std.specs.Prelude.{◌≡◌, ◌⊎◌, ◌<◌, ◌∷◌, ◌++◌, ℕ, zero, suc, Bool, List, [], length, Option}
+use Rattle.std.specs.Prelude.{◌≡◌, ◌⊎◌, ◌<◌, ◌∷◌, ◌++◌, ℕ, zero, suc, Bool, List, [], length, Option, option_map}
 use Rattle.table_schema.specs.Plan.{Ports}
 use Rattle.table_schema.specs.declared.key.Key.{Key}
 use Rattle.table_schema.specs.declared.row.Row.{Row}
@@ -8,6 +8,7 @@ use Rattle.sai_types.specs.declared.body.Call.{Call}
 use Rattle.sai_types.specs.declared.thing.Thing.{Thing}
 use Rattle.sai_types.specs.Made.{made_after, made_after_all}
 use Rattle.switch_model.specs.Good.{TypedRows}
+use Rattle.switch_model.specs.Placed.{place, placed_rows, router_in}
 use Rattle.switch_model.specs.Turns.{HasReason, with_good}
 use Rattle.chip_layout.specs.Layout.{listed}
 use Rattle.row_layout.specs.Operations.{Change, changes_of}
@@ -18,11 +19,11 @@ use Rattle.switch_machine.specs.Operations.{IsUsedByOthers}
 
 -- ---- of an operation
 
--- the changes that bring a key this row, or take its row away, over these applied rows
+-- the changes that bring a key this row, or take its row away, over these applied rows, each in its place
 pub record AreChangesOf (plan : Ports) (applied : TypedRows) (k : Key) (new : Option Row) (changes : List Change) : Type 0 where
   pub used : Owner → Bool
-  pub by_others : IsUsedByOthers plan applied k used
-  pub is : changes ≡ changes_of plan k (applied k) new used
+  pub by_others : IsUsedByOthers plan (placed_rows applied) k used
+  pub is : changes ≡ changes_of plan k (placed_rows applied k) (option_map (place (router_in applied k)) new) used
 
 -- a call makes this change: it names what stands, what it makes has the next identifier, and this stands after it
 pub record IsCallOf (stands : List (Rid × Thing)) (made : ℕ) (c : Change) (call : Call Rid) (later : List (Rid × Thing)) : Type 0 where

@@ -9,6 +9,7 @@ use Rattle.sai_types.specs.Alike.{IsIn}
 use mathlib.Core.Logic.{inl, inr}
 use Rattle.switch_model.specs.History.{History, no_history, with_end, with_mark, with_write}
 use Rattle.switch_model.specs.Marks.{AreInOrder, Waiting, written_key}
+use Rattle.switch_model.specs.Placed.{bare_rows}
 use Rattle.switch_model.specs.declared.mark.MarkEvent.TheVariants as event
 use Rattle.switch_machine.specs.Events.{SwitchState, IsEvent, IsPop, IsQuiet, IsTake, with_made_call, empty_switch}
 use Rattle.switch_machine.specs.Reasons.{IsReason}
@@ -43,7 +44,7 @@ pub record MakesEvent (plan : Ports) (workers : ℕ) (capacities : List ℕ) (s 
 -- each listed key has its reason and its applied row
 abbrev pub AreListed : Ports → ℕ → List ℕ → SwitchState → Waiting → Type 0
 AreListed plan workers capacities s [] = Unit {0}
-AreListed plan workers capacities s (w ∷ ws) = IsReason plan workers capacities s w.0 w.1 × (w.2 ≡ s.machine.board.applied w.0) × AreListed plan workers capacities s ws
+AreListed plan workers capacities s (w ∷ ws) = IsReason plan workers capacities s w.0 w.1 × (w.2 ≡ bare_rows s.machine.board.applied w.0) × AreListed plan workers capacities s ws
 
 abbrev pub ListsKey : Key → Waiting → Type 0
 ListsKey k [] = ⊥

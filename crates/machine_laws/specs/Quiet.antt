@@ -3,7 +3,6 @@ use Rattle.std.specs.Prelude.{◌≡◌, ◌∷◌, ℕ, true, List, [], Option,
 use mathlib.Core.Logic.{inl, inr}
 use Rattle.table_schema.specs.Plan.{Ports}
 use Rattle.table_schema.specs.declared.key.Key.{Key}
-use Rattle.table_schema.specs.declared.row.Row.{Row}
 use Rattle.sai_types.specs.declared.ids.Rid.{Rid}
 use Rattle.sai_types.specs.declared.body.Body.{Body}
 use Rattle.sai_types.specs.declared.body.Call.{Call}
@@ -14,6 +13,7 @@ use Rattle.sai_types.specs.After.{entry_of}
 use Rattle.sai_types.specs.Alike.{IsIn}
 use Rattle.sai_types.specs.Made.{same_entry}
 use Rattle.switch_model.specs.Marks.{written_key}
+use Rattle.switch_model.specs.Placed.{Placed as Row}
 use Rattle.switch_model.specs.Things.{things_of}
 use Rattle.chip_layout.specs.Bodies.{IsBody}
 use Rattle.chip_layout.specs.Layout.{Has, listed}

@@ -4,6 +4,7 @@ use Rattle.table_schema.specs.Plan.{Ports}
 use Rattle.table_schema.specs.declared.key.Key.{Key}
 use Rattle.sai_types.specs.declared.ids.Rid.{Rid}
 use Rattle.sai_types.specs.declared.body.Call.{Call}
+use Rattle.switch_model.specs.Placed.{bare_rows}
 use Rattle.switch_model.specs.declared.wait.Wait.{Wait}
 use Rattle.switch_machine.specs.Events.{AreAnswers, IsBegin, IsDrop, IsQuiet, SwitchState, after_answers}
 use Rattle.machine_laws.specs.Calls.{Situation}
@@ -72,10 +73,10 @@ AreMachineTurnsSoFar plan workers capacities (suc n) s keys t calls =
 
 -- the situation of a state
 abbrev pub situation : SwitchState → Situation
-situation s = record { applied = s.machine.board.applied; stands = s.machine.stands; made = s.made }
+situation s = record { applied = bare_rows s.machine.board.applied; stands = s.machine.stands; made = s.made }
 
 -- a situation is that of a state, its rows key by key
 pub record IsSituationOf (z : Situation) (s : SwitchState) : Type 0 where
-  pub rows : (k : Key) → z.applied k ≡ s.machine.board.applied k
+  pub rows : (k : Key) → z.applied k ≡ bare_rows s.machine.board.applied k
   pub stands : z.stands ≡ s.machine.stands
   pub made : z.made ≡ s.made

@@ -1,5 +1,7 @@
 // What whole settlings and logs of the machine come to. Each function is a law: it does nothing, and its contract is proved.
 ghost use Rattle.std.specs.Prelude.{◌≡◌, ◌∷◌, ◌++◌, ◌⊎◌, ℕ, ◌+◌, ◌*◌, ◌≤◌, ◌<◌, true, List, [], length, Option, Some, None};
+ghost use Rattle.swss_types.specs.declared.vrf.Vrf.{Vrf};
+ghost use Rattle.swss_types.specs.declared.vrf.Vrf.TheVariants as vrf;
 ghost use Rattle.table_schema.specs.Fields.{Pairs};
 ghost use Rattle.table_schema.specs.KeyText.{key_of};
 ghost use Rattle.table_schema.specs.Names.{names_of};
@@ -16,17 +18,19 @@ ghost use Rattle.switch_model.specs.Desired.{IsClosed, IsThingOf, have_rows};
 ghost use Rattle.switch_model.specs.Good.{TypedRows, good_row, good_rows};
 ghost use Rattle.switch_model.specs.Levels.{level_of};
 ghost use Rattle.switch_model.specs.Marks.{Waiting};
+ghost use Rattle.switch_model.specs.Placed.{Placed, bare, bare_rows, place, router_in};
 ghost use Rattle.switch_model.specs.Promises.{EffectsAreLegal, MarksAreTrue, good_rows_at};
+ghost use Rattle.switch_model.specs.Room.{IsStill};
 ghost use Rattle.switch_model.specs.Sound.{AreWithin};
 ghost use Rattle.switch_model.specs.Turns.{TakeTurns};
 ghost use Rattle.row_layout.specs.Operations.{Change};
-ghost use Rattle.switch_machine.specs.Events.{AreAnswers, AreEvents, IsBegin, IsDueCall, IsQuiet, IsSafe, SwitchState, after_answers, after_events, calls_of, empty_switch};
+ghost use Rattle.switch_machine.specs.Events.{AreAnswers, AreEvents, IsBegin, IsDueCall, IsQuiet, IsSafe, SwitchState, after_answers, after_events, calls_of, empty_switch, placed_good};
 ghost use Rattle.switch_machine.specs.Flights.{Fits, MachineFlight, IsResting, IsRow, goes_over};
 ghost use Rattle.switch_machine.specs.Next.{MustWait};
 ghost use Rattle.switch_machine.specs.Operations.{MayBegin};
 ghost use Rattle.switch_machine.specs.Places.{HasRoomFor};
 ghost use Rattle.switch_machine.specs.Reasons.{LacksRoom};
-ghost use Rattle.switch_machine.specs.Written.{HasNoWrite, good_of};
+ghost use Rattle.switch_machine.specs.Written.{HasNoWrite, Written, good_of};
 ghost use Rattle.machine_laws.specs.Bounds.{most_calls};
 ghost use Rattle.machine_laws.specs.Calls.{AreTurnsWith, AreTurnsWithSoFar, CompletesWith, Situation};
 ghost use Rattle.machine_laws.specs.Logged.{AreListed, AreLoggedEvents, IsInPops, IsInTurns, IsSettlingSoFar, IsWholeSettling, ListsKey, LoggedSwitch, LogsMark, AreNoWritesOf, after_logged, after_pops, new_switch};
@@ -34,13 +38,14 @@ ghost use Rattle.machine_laws.specs.Order.{IsOrdered};
 ghost use Rattle.machine_laws.specs.Quiet.{ChangesEntry, LeavesAlone, NamesNot, EntryStandsFor};
 ghost use Rattle.machine_laws.specs.Reading.{IsOnSwitch};
 ghost use Rattle.machine_laws.specs.Settling.{AreMachineTurns, AreMachineTurnsSoFar, IsSituationOf, RunsAlone, situation};
-ghost use Rattle.machine_laws.specs.ToSync.{AreInKeyOrder, AreSynced, HasRoomTogether};
+ghost use Rattle.machine_laws.specs.ToSync.{AreAtRest, AreInKeyOrder, AreSynced, HasRoomTogether, HaveInterfaces};
 
-/// A row names only keys of lower levels. With closed good rows and room for the applied and the good rows together, turns leave
-/// no key, are at most four, and bring each key its good row.
+/// A row names only keys of lower levels. From rows at rest, with closed good rows, room for the applied and the good rows together,
+/// and no interface that a good row names in another router than it is in, turns leave no key, are at most four, and bring each key
+/// its good row.
 pub fn four_turns()
     ensures levels { (k p : Key) (r : Row) → IsIn p (names_of k r) → level_of p < level_of k }
-    ensures four { (plan : Ports) (capacities : List ℕ) (good applied later : TypedRows) (keys left : List Key) (n : ℕ) → IsClosed good → HasRoomTogether plan capacities applied good → AreSynced good applied keys → AreInKeyOrder keys → TakeTurns plan capacities good n applied keys later left → (left ≡ []) × (n ≤ 4) × ((k : Key) → later k ≡ good k) }
+    ensures four { (plan : Ports) (capacities : List ℕ) (good applied later : TypedRows) (keys left : List Key) (n : ℕ) → IsClosed good → HaveInterfaces good → AreAtRest plan capacities applied → IsStill applied good → HasRoomTogether plan capacities applied good → AreSynced good applied keys → AreInKeyOrder keys → TakeTurns plan capacities good n applied keys later left → (left ≡ []) × (n ≤ 4) × ((k : Key) → later k ≡ good k) }
 {}
 
 /// The calls of an operation that runs alone are those of the changes of its key's rows, one for each, in their order; then the
@@ -70,11 +75,15 @@ pub fn turns_so_far_are_turns()
     ensures whole { (plan : Ports) (workers : ℕ) (capacities : List ℕ) (n : ℕ) (s t : SwitchState) (keys left : List Key) (calls : List (Call Rid)) → AreMachineTurns plan workers capacities n s keys t left calls → (m : ℕ) × (((left ≡ []) × (m ≡ n)) ⊎ ((0 < length left) × (n ≡ m + 1))) × AreMachineTurnsSoFar plan workers capacities m s keys t calls }
 {}
 
-/// With closed good rows and room for the applied and the good rows together a settling leaves no key, takes at most four turns,
-/// brings each key its good row and the chip the things of the good rows; and no key waits after it, so its mark lists none.
+/// While no operation is under way the applied rows are at rest, and the good row of an interface's key is an interface's. With
+/// closed good rows, room for the applied and the good rows together, and no interface that a good row names in another router than
+/// it is in, a settling leaves no key, takes at most four turns, brings each key its good row and the chip the things of the good
+/// rows; and no key waits after it, so its mark lists none.
 pub fn settlings_drain()
-    ensures drains { (plan : Ports) (workers : ℕ) (capacities : List ℕ) (n : ℕ) (s t : SwitchState) (keys left : List Key) (calls : List (Call Rid)) → IsPlan plan → IsSafe plan workers capacities s → IsQuiet s → IsClosed (good_of plan s.written) → HasRoomTogether plan capacities s.machine.board.applied (good_of plan s.written) → ((k : Key) → IsIn k s.to_sync → IsIn k keys) → AreInKeyOrder keys → AreMachineTurns plan workers capacities n s keys t left calls → (left ≡ []) × (n ≤ 4) × ((k : Key) → t.machine.board.applied k ≡ good_of plan s.written k) × IsAlike t.objects (IsThingOf plan (good_of plan s.written)) }
-    ensures nothing_waits { (plan : Ports) (workers : ℕ) (capacities : List ℕ) (n : ℕ) (s t : SwitchState) (keys left : List Key) (calls : List (Call Rid)) (waits : Waiting) → IsPlan plan → IsSafe plan workers capacities s → IsQuiet s → IsClosed (good_of plan s.written) → HasRoomTogether plan capacities s.machine.board.applied (good_of plan s.written) → ((k : Key) → IsIn k s.to_sync → IsIn k keys) → AreInKeyOrder keys → AreMachineTurns plan workers capacities n s keys t left calls → AreListed plan workers capacities t waits → waits ≡ [] }
+    ensures rests { (plan : Ports) (workers : ℕ) (capacities : List ℕ) (s : SwitchState) → IsPlan plan → IsSafe plan workers capacities s → IsQuiet s → AreAtRest plan capacities (bare_rows s.machine.board.applied) }
+    ensures interfaces { (plan : Ports) (written : Written) → HaveInterfaces (good_of plan written) }
+    ensures drains { (plan : Ports) (workers : ℕ) (capacities : List ℕ) (n : ℕ) (s t : SwitchState) (keys left : List Key) (calls : List (Call Rid)) → IsPlan plan → IsSafe plan workers capacities s → IsQuiet s → IsClosed (good_of plan s.written) → IsStill (bare_rows s.machine.board.applied) (good_of plan s.written) → HasRoomTogether plan capacities (bare_rows s.machine.board.applied) (good_of plan s.written) → ((k : Key) → IsIn k s.to_sync → IsIn k keys) → AreInKeyOrder keys → AreMachineTurns plan workers capacities n s keys t left calls → (left ≡ []) × (n ≤ 4) × ((k : Key) → bare_rows t.machine.board.applied k ≡ good_of plan s.written k) × IsAlike t.objects (IsThingOf plan (good_of plan s.written)) }
+    ensures nothing_waits { (plan : Ports) (workers : ℕ) (capacities : List ℕ) (n : ℕ) (s t : SwitchState) (keys left : List Key) (calls : List (Call Rid)) (waits : Waiting) → IsPlan plan → IsSafe plan workers capacities s → IsQuiet s → IsClosed (good_of plan s.written) → IsStill (bare_rows s.machine.board.applied) (good_of plan s.written) → HasRoomTogether plan capacities (bare_rows s.machine.board.applied) (good_of plan s.written) → ((k : Key) → IsIn k s.to_sync → IsIn k keys) → AreInKeyOrder keys → AreMachineTurns plan workers capacities n s keys t left calls → AreListed plan workers capacities t waits → waits ≡ [] }
 {}
 
 /// A settling without a restart and a fault is a list of logged events, which ends at its mark. Its effects are those of as many
@@ -123,7 +132,7 @@ pub fn quiet_rows_stay()
 
 /// From the new switch on each row that is applied or to be applied is its key's good row after some number of the writes taken.
 pub fn rows_are_dated()
-    ensures { (plan : Ports) (workers : ℕ) (capacities : List ℕ) (ts : List LoggedSwitch) (k : Key) (r : Row) → IsPlan plan → AreLoggedEvents plan workers capacities new_switch ts → IsRow (after_logged new_switch ts).switch.machine.board k r → (n : ℕ) × (n ≤ length (after_logged new_switch ts).log.taken) × (good_rows_at plan (after_logged new_switch ts).log.taken n k ≡ Some r) }
+    ensures { (plan : Ports) (workers : ℕ) (capacities : List ℕ) (ts : List LoggedSwitch) (k : Key) (r : Placed) → IsPlan plan → AreLoggedEvents plan workers capacities new_switch ts → IsRow (after_logged new_switch ts).switch.machine.board k r → (n : ℕ) × (n ≤ length (after_logged new_switch ts).log.taken) × (good_rows_at plan (after_logged new_switch ts).log.taken n k ≡ Some (bare r)) }
 {}
 
 /// While no operation is under way an operation of a key that was read may begin for any worker, where all that its good row
@@ -131,9 +140,9 @@ pub fn rows_are_dated()
 /// or the key lacks room for a first kind; a row that goes needs none. So each key to sync has a reason to wait, or begins.
 pub fn keys_may_begin()
     ensures reads { (text : List ℕ) → IsOnSwitch (key_of text) }
-    ensures fits { (plan : Ports) (applied : TypedRows) (k : Key) (fields : Pairs) (r : Row) → ((q : Key) (x : Row) → applied q ≡ Some x → Fits plan q x) → IsClosed applied → IsOnSwitch k → good_row plan k (Some fields) ≡ Some r → have_rows applied (names_of k r) ≡ true → Fits plan k r }
-    ensures begins { (plan : Ports) (workers : ℕ) (capacities : List ℕ) (s : SwitchState) (w : ℕ) (k : Key) → IsPlan plan → IsSafe plan workers capacities s → IsQuiet s → IsOnSwitch k → ((r : Row) → good_of plan s.written k ≡ Some r → have_rows s.machine.board.applied (names_of k r) ≡ true) → (goes_over k (s.machine.board.applied k) (good_of plan s.written k) ≡ true → (q : Key) (r : Row) → s.machine.board.applied q ≡ Some r → IsIn k (names_of q r) → ⊥) → (f : MachineFlight) × (due : List Change) × (f.key ≡ k) × (f.new ≡ good_of plan s.written k) × MayBegin plan s.machine w f due }
-    ensures room { (plan : Ports) (workers : ℕ) (capacities : List ℕ) (s : SwitchState) (w : ℕ) (f : MachineFlight) (due : List Change) (row : Row) → MayBegin plan s.machine w f due → f.new ≡ Some row → good_of plan s.written f.key ≡ Some row → HasRoomFor workers capacities s.objects s.machine due ⊎ ((kind : Kind) × LacksRoom plan workers capacities s f.key kind) }
+    ensures fits { (plan : Ports) (applied : TypedRows) (k : Key) (fields : Pairs) (r : Row) → ((q : Key) (x : Row) → applied q ≡ Some x → Fits plan q (place vrf.Default x)) → IsClosed applied → IsOnSwitch k → good_row plan k (Some fields) ≡ Some r → have_rows applied (names_of k r) ≡ true → (v : Vrf) → Fits plan k (place v r) }
+    ensures begins { (plan : Ports) (workers : ℕ) (capacities : List ℕ) (s : SwitchState) (w : ℕ) (k : Key) → IsPlan plan → IsSafe plan workers capacities s → IsQuiet s → IsOnSwitch k → ((r : Row) → good_of plan s.written k ≡ Some r → have_rows (bare_rows s.machine.board.applied) (names_of k r) ≡ true) → (goes_over k (s.machine.board.applied k) (placed_good plan s.machine.board s.written k) ≡ true → (q : Key) (r : Row) → bare_rows s.machine.board.applied q ≡ Some r → IsIn k (names_of q r) → ⊥) → (f : MachineFlight) × (due : List Change) × (f.key ≡ k) × (f.new ≡ placed_good plan s.machine.board s.written k) × MayBegin plan s.machine w f due }
+    ensures room { (plan : Ports) (workers : ℕ) (capacities : List ℕ) (s : SwitchState) (w : ℕ) (f : MachineFlight) (due : List Change) (row : Row) → MayBegin plan s.machine w f due → f.new ≡ Some (place (router_in (bare_rows s.machine.board.applied) f.key) row) → good_of plan s.written f.key ≡ Some row → HasRoomFor workers capacities s.objects s.machine due ⊎ ((kind : Kind) × LacksRoom plan workers capacities s f.key kind) }
     ensures room_gone { (plan : Ports) (workers : ℕ) (capacities : List ℕ) (s : SwitchState) (w : ℕ) (f : MachineFlight) (due : List Change) → MayBegin plan s.machine w f due → f.new ≡ None → HasRoomFor workers capacities s.objects s.machine due }
     ensures waits_or_begins { (plan : Ports) (workers : ℕ) (capacities : List ℕ) (s : SwitchState) (w : ℕ) (k : Key) → IsPlan plan → IsSafe plan workers capacities s → IsQuiet s → w < workers → IsIn k s.to_sync → IsOnSwitch k → MustWait plan workers capacities s k ⊎ ((t : SwitchState) × (x : IsBegin plan workers capacities s t) × (x.worker ≡ w) × (x.flight.key ≡ k)) }
 {}

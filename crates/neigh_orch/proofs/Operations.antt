@@ -6,8 +6,9 @@ use Rattle.swss_types.specs.declared.address.Mac.{Mac}
 use Rattle.swss_types.specs.declared.interface.IfName.{IfName}
 use Rattle.table_schema.specs.Plan.{Ports}
 use Rattle.table_schema.specs.declared.key.Key.TheVariants as key
-use Rattle.table_schema.specs.declared.row.Row.{Row}
-use Rattle.table_schema.specs.declared.row.Row.TheVariants as row
+use Rattle.table_schema.specs.declared.row.Row.{Row as BareRow}
+use Rattle.switch_model.specs.Placed.{Placed as Row}
+use Rattle.switch_model.specs.Placed as row
 use Rattle.sai_types.specs.contracts.hop.HopEq.TheImpl.Laws as equal_hop
 use Rattle.sai_types.specs.contracts.thing.ThingEq.TheImpl.Laws as equal_thing
 use Rattle.sai_types.specs.declared.hop.Base.{Base}
@@ -20,15 +21,15 @@ use Rattle.ref_counts.specs.Registry.{Names}
 use Rattle.ref_counts.specs.Room.{RoomState}
 use Rattle.switch_machine.specs.Flights.{Fits}
 use Rattle.orch_flight.specs.Operation.{Operation}
-use Rattle.orch_flight.specs.Starting.{IsBegunBy, IsStartedBy, begun_names, first_due, started_by, started_operation}
+use Rattle.orch_flight.specs.Starting.{IsBegunBy, IsStartedBy, begun_names, first_due, started_by, started_operation, in_default}
 use Rattle.orch_flight.proofs.Begins.{started-plain}
 use Rattle.neigh_orch.specs.Neighbours.{HaveFit, IsNeighborFlown, due_set, neighbor_hop, row_mac, neigh_due, neigh_operation, same_mac}
 use Rattle.neigh_orch.specs.declared.left.Left.TheVariants as left
 use Rattle.neigh_orch.proofs.Starts.{leaves-nothing, things_on}
 
--- the rows behind references
-abbrev pub rows : Option (Bor Row) → Option Row
-rows o = option_map (λ r. r.now) o
+-- the rows behind references, in their places
+abbrev pub rows : Option (Bor BareRow) → Option Row
+rows o = in_default (option_map (λ r. r.now) o)
 
 module _ (plan : Ports) (n : IfName) (ip : Ip) where
   -- an interface of the plan stands on something

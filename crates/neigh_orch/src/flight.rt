@@ -5,7 +5,7 @@ ghost use Rattle.ref_counts.specs.Registry.{ids_of};
 ghost use Rattle.table_schema.specs.Plan.{Ports};
 ghost use Rattle.orch_flight.specs.Calling.{IsNextOf, IsOver, KnowsIds};
 ghost use Rattle.orch_flight.specs.Sharing.{MayStart};
-ghost use Rattle.orch_flight.specs.Starting.{IsStartedBy};
+ghost use Rattle.orch_flight.specs.Starting.{IsStartedBy, in_default};
 ghost use Rattle.orch_flight.specs.Taking.{IsTook, MayTake};
 ghost use Rattle.neigh_orch.specs.Neighbours.{HaveFit, IsNeighborStart, IsNeighborFlown, IsMadeNext, IsNeighKey, IsSetNext, IsTakenNext, KnowsInterface, KnowsMade, KnowsTaken, MayBuild, fewer, row_mac, names_made, same_mac};
 
@@ -57,8 +57,8 @@ impl NeighFlight {
         new: Option<&Row>,
     ) -> Result<Result<NeighFlight, Wait>, OutOfMemory>
         requires table { IsNeighKey key.now }
-        requires may { MayStart plan.now reg.old worker key.now (option_map (λ r. r.now) old) (option_map (λ r. r.now) new) }
-        ensures started { IfOk result (λ answer. IsStartedBy plan.now reg.old room.old used.now worker key.now (option_map (λ r. r.now) old.entry) (option_map (λ r. r.now) new.entry) answer reg.new room.new) }
+        requires may { MayStart plan.now reg.old worker key.now (in_default (option_map (λ r. r.now) old)) (in_default (option_map (λ r. r.now) new)) }
+        ensures started { IfOk result (λ answer. IsStartedBy plan.now reg.old room.old used.now worker key.now (in_default (option_map (λ r. r.now) old.entry)) (in_default (option_map (λ r. r.now) new.entry)) answer reg.new room.new) }
         ensures err { OnErr result (reg.new ≡ reg.old) }
         ensures err_room { OnErr result (room.new ≡ room.old) }
     {
@@ -82,8 +82,8 @@ impl NeighFlight {
         old: Option<&Row>,
         new: Option<&Row>,
     ) -> Result<Result<NeighFlight, Wait>, OutOfMemory>
-        requires may { MayStart plan.now reg.old worker (Key.Neigh on ip.now) (option_map (λ r. r.now) old) (option_map (λ r. r.now) new) }
-        ensures started { IfOk result (λ answer. IsStartedBy plan.now reg.old room.old used.now worker (Key.Neigh on ip.now) (option_map (λ r. r.now) old.entry) (option_map (λ r. r.now) new.entry) answer reg.new room.new) }
+        requires may { MayStart plan.now reg.old worker (Key.Neigh on ip.now) (in_default (option_map (λ r. r.now) old)) (in_default (option_map (λ r. r.now) new)) }
+        ensures started { IfOk result (λ answer. IsStartedBy plan.now reg.old room.old used.now worker (Key.Neigh on ip.now) (in_default (option_map (λ r. r.now) old.entry)) (in_default (option_map (λ r. r.now) new.entry)) answer reg.new room.new) }
         ensures err { OnErr result (reg.new ≡ reg.old) }
         ensures err_room { OnErr result (room.new ≡ room.old) }
     {
@@ -114,8 +114,8 @@ impl NeighFlight {
         new: Option<&Row>,
         begun: Result<(), Wait>,
     ) -> Result<NeighFlight, Wait>
-        requires { OnOk begun (HaveFit plan.now on ip.now (option_map (λ r. r.now) old) (option_map (λ r. r.now) new)) }
-        ensures { IsNeighborFlown plan.now worker on ip.now (option_map (λ r. r.now) old.entry) (option_map (λ r. r.now) new.entry) begun result }
+        requires { OnOk begun (HaveFit plan.now on ip.now (in_default (option_map (λ r. r.now) old)) (in_default (option_map (λ r. r.now) new))) }
+        ensures { IsNeighborFlown plan.now worker on ip.now (in_default (option_map (λ r. r.now) old.entry)) (in_default (option_map (λ r. r.now) new.entry)) begun result }
     {
         match begun {
             Ok(()) => Ok(NeighFlight::first(plan, worker, on, ip, old, new)),
@@ -132,8 +132,8 @@ impl NeighFlight {
         old: Option<&Row>,
         new: Option<&Row>,
     ) -> NeighFlight
-        requires { HaveFit plan.now on ip.now (option_map (λ r. r.now) old) (option_map (λ r. r.now) new) }
-        ensures { IsNeighborStart plan.now worker on ip.now (option_map (λ r. r.now) old.entry) (option_map (λ r. r.now) new.entry) result }
+        requires { HaveFit plan.now on ip.now (in_default (option_map (λ r. r.now) old)) (in_default (option_map (λ r. r.now) new)) }
+        ensures { IsNeighborStart plan.now worker on ip.now (in_default (option_map (λ r. r.now) old.entry)) (in_default (option_map (λ r. r.now) new.entry)) result }
     {
         match base_of(plan, on) {
             Some(base) => NeighFlight {
@@ -192,7 +192,7 @@ impl NeighFlight {
 
 /// The Ethernet address of a neighbour's row, where there is one.
 fn mac_of(row: Option<&Row>) -> Option<Mac>
-    ensures { result ≡ row_mac (option_map (λ r. r.now) row.entry) }
+    ensures { result ≡ row_mac (in_default (option_map (λ r. r.now) row.entry)) }
 {
     match row {
         Some(Row::Neigh(mac)) => Some(*mac),

@@ -1,7 +1,7 @@
 // How the operation of a neighbour starts.
 ghost use Rattle.std.specs.Prelude.{◌≡◌, None, Some, option_map, IfOk, OnErr};
 ghost use Rattle.orch_flight.specs.Sharing.{MayStart};
-ghost use Rattle.orch_flight.specs.Starting.{IsBegunBy};
+ghost use Rattle.orch_flight.specs.Starting.{IsBegunBy, in_default};
 
 use orch_flight::{start_row, try_remove};
 use ref_counts::{Registry, Room};
@@ -27,8 +27,8 @@ pub fn add(
     ip: &Ip,
     _new: &Row,
 ) -> Result<Result<(), Wait>, OutOfMemory>
-    requires may { MayStart _plan.now reg.old worker (Key.Neigh on ip.now) None (Some _new.now) }
-    ensures begun { IfOk result (λ answer. IsBegunBy _plan.now reg.old room.old used.now worker (Key.Neigh on ip.now) None (Some _new.now) answer reg.new room.new) }
+    requires may { MayStart _plan.now reg.old worker (Key.Neigh on ip.now) None (in_default (Some _new.now)) }
+    ensures begun { IfOk result (λ answer. IsBegunBy _plan.now reg.old room.old used.now worker (Key.Neigh on ip.now) None (in_default (Some _new.now)) answer reg.new room.new) }
     ensures err { OnErr result (reg.new ≡ reg.old) }
     ensures err_room { OnErr result (room.new ≡ room.old) }
 {
@@ -58,8 +58,8 @@ pub fn change(
     _old: &Row,
     _new: &Row,
 ) -> Result<Result<(), Wait>, OutOfMemory>
-    requires may { MayStart _plan.now reg.old worker (Key.Neigh on ip.now) (Some _old.now) (Some _new.now) }
-    ensures begun { IfOk result (λ answer. IsBegunBy _plan.now reg.old room.old used.now worker (Key.Neigh on ip.now) (Some _old.now) (Some _new.now) answer reg.new room.new) }
+    requires may { MayStart _plan.now reg.old worker (Key.Neigh on ip.now) (in_default (Some _old.now)) (in_default (Some _new.now)) }
+    ensures begun { IfOk result (λ answer. IsBegunBy _plan.now reg.old room.old used.now worker (Key.Neigh on ip.now) (in_default (Some _old.now)) (in_default (Some _new.now)) answer reg.new room.new) }
     ensures err { OnErr result (reg.new ≡ reg.old) }
     ensures err_room { OnErr result (room.new ≡ room.old) }
 {
@@ -88,8 +88,8 @@ pub fn remove(
     ip: &Ip,
     _old: &Row,
 ) -> Result<Result<(), Wait>, OutOfMemory>
-    requires may { MayStart _plan.now reg.old worker (Key.Neigh on ip.now) (Some _old.now) None }
-    ensures begun { IfOk result (λ answer. IsBegunBy _plan.now reg.old room.now used.now worker (Key.Neigh on ip.now) (Some _old.now) None answer reg.new room.now) }
+    requires may { MayStart _plan.now reg.old worker (Key.Neigh on ip.now) (in_default (Some _old.now)) None }
+    ensures begun { IfOk result (λ answer. IsBegunBy _plan.now reg.old room.now used.now worker (Key.Neigh on ip.now) (in_default (Some _old.now)) None answer reg.new room.now) }
     ensures err { OnErr result (reg.new ≡ reg.old) }
 {
     try_remove(reg, worker, &Key::Neigh(on, *ip))

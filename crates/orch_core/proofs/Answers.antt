@@ -24,12 +24,12 @@ use Rattle.restart_laws.specs.Logged.{IsLoggedStep, LoggedService}
 use Rattle.asic_view.specs.View.{ViewObjects}
 use Rattle.syncd_core.specs.Synced.{AnswerFollows, CanCall, Calls, IsMadeOnChip, SyncState}
 use Rattle.syncd_core.specs.Tied.{tie_of}
-use Rattle.flight_board.specs.Board.{BoardState, FlightState, IsPrepared, IsCallReady, IsTakenFor, flown_at}
+use Rattle.flight_board.specs.Board.{BoardState, FlightState, IsPrepared, IsCallReady, IsTakenFor, MayEndThen, flown_at}
 use Rattle.warm_state.specs.declared.warm.Warm.TheVariants as warm
 use Rattle.session_laws.specs.Core.{CoreState, IsFullFor, mark_at}
 use Rattle.session_laws.specs.Events.{MakesOne, vid_made_by}
 use Rattle.session_laws.specs.Standing.{IsSessionOf}
-use Rattle.session_laws.proofs.Answering.{answers_step, may_take}
+use Rattle.session_laws.proofs.Answering.{answers_step, ends_then, may_take}
 use Rattle.session_laws.proofs.Faulting.{Ended, Marked, faults_step, said_failed}
 use Rattle.session_laws.proofs.Preparing.{due_call, has_begun, prepared_stands, ready as ready_of}
 use Rattle.orch_core.specs.Outcomes.{Answered, AnswersCall, FaultsCall, Heeds, KeepsChip, KeepsFlights, StaysInSession, with_fault}
@@ -125,6 +125,9 @@ module _ (s : LoggedService) (w : ℕ) (c : CoreState) (chip : ChipState) (is : 
   -- a core without its log, and what syncd made of the call
   pub may_heed : (d : CoreState) → d ≡ beside → (a : SyncAnswer) → Calls c.sync c.sync.temporary chip call a y chip' → (a ≡ sync.Failed → ⊥) → (z : Flown) × (flown_at d.board w ≡ Some z) × MayTakeFor z.operation z.group (vid_made_by a) d.board.names
   may_heed d is_without a calls went = subst (λ (k : CoreState). (z : Flown) × (flown_at k.board w ≡ Some z) × MayTakeFor z.operation z.group (vid_made_by a) k.board.names) (sym is_without) (x, there, may_take c chip s is at w x there begun call told a went y chip' calls)
+
+  pub ends_heed : (d : CoreState) → d ≡ beside → (a : SyncAnswer) → Calls c.sync c.sync.temporary chip call a y chip' → (a ≡ sync.Failed → ⊥) → MayEndThen d.board w (vid_made_by a)
+  ends_heed d is_without a calls went = subst (λ (k : CoreState). MayEndThen k.board w (vid_made_by a)) (sym is_without) (ends_then c chip s is at w x there begun call told a went y chip' calls)
 
   fault_is : (h : History) → h ≡ c.log → (n before after : ℕ) → n ≡ length chip'.effects → before ≡ chip.faults → after ≡ chip'.faults → (f : Mark) → f ≡ record { taken = length h.taken; effects = n; event = event.Faulted before after } → f ≡ fault
   fault_is h same n before after many first last f is_mark =

@@ -21,12 +21,12 @@ use Rattle.registry_laws.specs.Standing.{HasBegun}
 use Rattle.syncd_core.specs.Synced.{CanCall, Calls, SyncState}
 use Rattle.ref_counts.specs.Room.{number_of_kind}
 use Rattle.flight_board.specs.Applied.{row_at}
-use Rattle.flight_board.specs.Board.{BoardState, IsBegunFor, IsCallReady, IsPrepared, IsSameBoard, IsTakenFor, IsUnflown, flown_at}
+use Rattle.flight_board.specs.Board.{BoardState, IsBegunFor, IsCallReady, IsPrepared, IsSameBoard, IsTakenFor, IsUnflown, MayEndThen, flown_at}
 use Rattle.session_laws.specs.Core.{CoreState, good_in}
 use Rattle.session_laws.specs.Events.{vid_made_by}
 use Rattle.restart_laws.specs.Restored.{keys_waiting}
 use Rattle.session_laws.specs.Service.Built.{AreReasons, IsBeside, IsBringing, IsBuilt}
-use Rattle.session_laws.proofs.Service.Building.{begun-prepared, bringing-called, bringing-ends, bringing-first, bringing-prepared, built-wait, can-bring, may-take-called, ready-prepared, same-chip}
+use Rattle.session_laws.proofs.Service.Building.{begun-prepared, bringing-called, bringing-ends, bringing-first, bringing-prepared, built-wait, can-bring, ends-called, may-take-called, ready-prepared, same-chip}
 use Rattle.orch_core.specs.Outcomes.{AreKindsCounted}
 use Rattle.orch_core.specs.Restarting.{CallsView, GoesOver, calls_left}
 use Rattle.orch_core.proofs.OnView.{fewer_called, fewer_prepared}
@@ -70,6 +70,9 @@ module _ (first c : CoreState) (rest : List Key) (x : IsBringing first c rest) (
       pub may_now : (g : Flown) × (flown_at e.board 0 ≡ Some g) × MayTakeFor g.operation g.group (vid_made_by a) e.board.names
       may_now = subst (λ (z : CoreState). (g : Flown) × (flown_at z.board 0 ≡ Some g) × MayTakeFor g.operation g.group (vid_made_by a) z.board.names) (sym is_called)
           (f_now, there_d, may-take-called first d rest bringing_now f_now there_d begun_d call (told f_now there_d) chip a y chip' calls)
+
+      pub ends_now : MayEndThen e.board 0 (vid_made_by a)
+      ends_now = subst (λ (z : CoreState). MayEndThen z.board 0 (vid_made_by a)) (sym is_called) (ends-called first d rest bringing_now f_now there_d begun_d call (told f_now there_d) chip a y chip' calls)
 
       called : (b' : BoardState) → IsTakenFor d.board 0 (vid_made_by a) b' → CallsView first rest c chip (Ok tt) (record d { board = b'; sync = y }) chip'
       called b' taken =

@@ -5,7 +5,7 @@ ghost use Rattle.registry_laws.specs.Flown.{Flown};
 ghost use Rattle.registry_laws.specs.Making.{IsNextCall, MayTakeFor};
 ghost use Rattle.registry_laws.specs.Standing.{HasBegun};
 ghost use Rattle.restart_laws.specs.Logged.{LoggedService};
-ghost use Rattle.flight_board.specs.Board.{flown_at};
+ghost use Rattle.flight_board.specs.Board.{MayEndThen, flown_at};
 ghost use Rattle.warm_state.specs.declared.warm.Warm.TheVariants as warm;
 ghost use Rattle.session_laws.specs.Core.{IsFullFor};
 ghost use Rattle.session_laws.specs.Events.{vid_made_by};
@@ -83,6 +83,7 @@ impl Core {
     ) -> Step
         requires worker { worker < 4 }
         requires may { (answer ≡ sync.Failed → ⊥) → (x : Flown) × (flown_at self.old.board worker ≡ Some x) × MayTakeFor x.operation x.group (vid_made_by answer) self.old.board.names }
+        requires ends { (answer ≡ sync.Failed → ⊥) → MayEndThen self.old.board worker (vid_made_by answer) }
         ensures { Heeds worker answer log fault ends self.old result self.new }
     {
         match answer {

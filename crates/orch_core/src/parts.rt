@@ -1,17 +1,19 @@
 // What the core has its parts do: each call is one of the board, of syncd or of the tables, and the rest of the core stays.
-ghost use Rattle.std.specs.Prelude.{◌≡◌, ◌<◌, ◌^◌, ◌↔◌, ◌⊎◌, [], length, None, Some, IsSome, IsTrue, IfOk, OnOk, OnErr, option_map};
+ghost use Rattle.std.specs.Prelude.{◌≡◌, ◌<◌, ◌≤◌, ◌^◌, ◌↔◌, ◌⊎◌, [], length, None, Some, IsSome, IsTrue, IfOk, OnOk, OnErr, option_map};
 ghost use Rattle.std.specs.Map.{keys_of};
 ghost use Rattle.producer_table.specs.Pending.{ArePendingInOrder};
 ghost use Rattle.consumer_table.specs.Ops.{AreOpsInOrder, first_in, keys_behind};
 ghost use Rattle.retry_list.specs.Reasons.{reason_at, with_reason};
+ghost use Rattle.sai_types.specs.declared.kind.Kind.TheVariants as kind;
+ghost use Rattle.ref_counts.specs.Room.{number_of_kind};
 ghost use Rattle.orch_flight.specs.Sharing.{MayStart};
 ghost use Rattle.registry_laws.specs.Flown.{Flown};
 ghost use Rattle.registry_laws.specs.Making.{IsNextCall, MayTakeFor};
 ghost use Rattle.sync_tables.specs.Tables.{PopsBatch, PopsInPart, PopsKeys, PopsSome, TablesState};
 ghost use Rattle.sync_tables.specs.declared.tables.TheConstants.{BATCH};
 ghost use Rattle.syncd_core.specs.Synced.{Calls, CanCall, IsUnmade, SyncState};
-ghost use Rattle.flight_board.specs.Applied.{row_at};
-ghost use Rattle.flight_board.specs.Board.{BoardState, IsBegunFor, IsPrepared, IsCallReady, IsSameBoard, IsTakenFor, IsUnflown, flown_at};
+ghost use Rattle.flight_board.specs.Applied.{placed_at, placed_for, row_at};
+ghost use Rattle.flight_board.specs.Board.{BoardState, IsBegunFor, IsPrepared, IsCallReady, IsSameBoard, IsTakenFor, IsUnflown, MayEndAtOnce, MayEndThen, flown_at};
 ghost use Rattle.session_laws.specs.Core.{good_in};
 ghost use Rattle.orch_core.specs.Outcomes.{key_left};
 
@@ -66,6 +68,7 @@ impl Core {
     pub(crate) fn took(&mut self, worker: u32, made: Option<Vid>)
         requires worker { worker < 4 }
         requires may { (x : Flown) × (flown_at self.old.board worker ≡ Some x) × MayTakeFor x.operation x.group made self.old.board.names }
+        requires ends { MayEndThen self.old.board worker made }
         ensures { (b : BoardState) × IsTakenFor self.old.board worker made b × (self.new ≡ record self.old { board = b }) }
     {
         self.board.took(worker, made);
@@ -81,7 +84,9 @@ impl Core {
     ) -> Result<Result<(), Wait>, OutOfMemory>
         requires worker { worker < 4 }
         requires none { flown_at self.old.board worker ≡ None }
-        requires may { IsUnflown self.old.board key.now → MayStart self.old.board.plan self.old.board.names worker key.now (row_at self.old.board.applied key.now) new }
+        requires few { number_of_kind used.now kind.Rif ≤ 2 ^ 63 }
+        requires may { IsUnflown self.old.board key.now → MayStart self.old.board.plan self.old.board.names worker key.now (placed_at self.old.board.applied key.now) (placed_for self.old.board.applied key.now new) }
+        requires ends { IsUnflown self.old.board key.now → MayEndAtOnce self.old.board used.now worker key.now new }
         ensures begun { IfOk result (λ answer. (b : BoardState) × IsBegunFor self.old.board used.now worker key.now new answer b × (self.new ≡ record self.old { board = b })) }
         ensures err { OnErr result ((b : BoardState) × IsSameBoard self.old.board b × (self.new ≡ record self.old { board = b })) }
     {

@@ -1,5 +1,6 @@
 // The core.
-ghost use Rattle.std.specs.Prelude.{◌≡◌};
+ghost use Rattle.std.specs.Prelude.{◌≡◌, ◌≤◌, ◌^◌};
+ghost use Rattle.sai_types.specs.declared.kind.Kind.TheVariants as kind;
 ghost use Rattle.ref_counts.specs.Room.{number_of_kind};
 ghost use Rattle.session_laws.specs.Core.{new_core};
 ghost use Rattle.orch_core.specs.Outcomes.{AreKindsCounted};
@@ -118,9 +119,10 @@ impl Core {
         self.board.plan()
     }
 
-    /// How many objects of each kind stand.
+    /// How many objects of each kind stand. They are few.
     pub(crate) fn used(&self) -> KindCounts
-        ensures { AreKindsCounted self.now.sync (number_of_kind result) }
+        ensures kinds { AreKindsCounted self.now.sync (number_of_kind result) }
+        ensures few { number_of_kind result kind.Rif ≤ 2 ^ 63 }
     {
         self.syncd.counts()
     }

@@ -1,16 +1,17 @@
 // What becomes of a key that is to sync.
-ghost use Rattle.std.specs.Prelude.{◌≡◌, ◌<◌, None};
+ghost use Rattle.std.specs.Prelude.{◌≡◌, ◌<◌, ℕ, List, None};
 ghost use Rattle.sai_types.specs.ChipState.{ChipState};
 ghost use Rattle.consumer_table.specs.Ops.{AreOpsInOrder};
+ghost use Rattle.ref_counts.specs.Room.{number_of_kind};
 ghost use Rattle.orch_flight.specs.Sharing.{MayStart};
 ghost use Rattle.restart_laws.specs.Logged.{LoggedService};
 ghost use Rattle.sync_tables.specs.Tables.{IsToSync};
-ghost use Rattle.flight_board.specs.Applied.{row_at};
-ghost use Rattle.flight_board.specs.Board.{IsUnflown, flown_at};
+ghost use Rattle.flight_board.specs.Applied.{placed_at, placed_for};
+ghost use Rattle.flight_board.specs.Board.{IsUnflown, MayEndAtOnce, flown_at};
 ghost use Rattle.warm_state.specs.declared.warm.Warm.TheVariants as warm;
 ghost use Rattle.session_laws.specs.Core.{good_in};
 ghost use Rattle.session_laws.specs.Standing.{IsSessionOf};
-ghost use Rattle.orch_core.specs.Outcomes.{BeginsOrDrops, Begun, IsInSession, Tries};
+ghost use Rattle.orch_core.specs.Outcomes.{AreKindsCounted, BeginsOrDrops, Begun, IsInSession, Tries};
 
 use crate::Core;
 use crate::answer::Tried;
@@ -71,7 +72,8 @@ impl Core {
     fn begin(&mut self, worker: u32, key: &Key, new: Option<Row>) -> Result<Tried, OutOfMemory>
         requires worker { worker < 4 }
         requires none { flown_at self.old.board worker ≡ None }
-        requires may { IsUnflown self.old.board key.now → MayStart self.old.board.plan self.old.board.names worker key.now (row_at self.old.board.applied key.now) new }
+        requires may { IsUnflown self.old.board key.now → MayStart self.old.board.plan self.old.board.names worker key.now (placed_at self.old.board.applied key.now) (placed_for self.old.board.applied key.now new) }
+        requires ends { (used : List ℕ) → AreKindsCounted self.old.sync (number_of_kind used) → IsUnflown self.old.board key.now → MayEndAtOnce self.old.board used worker key.now new }
         ensures { Begun worker key.now new self.old result self.new }
     {
         let used = self.used();

@@ -1,13 +1,13 @@
 -- a start, from what its steps tell
-use Rattle.std.proofs.Common.{◌≡◌, ℕ, List, [], ◌∷◌, ◌++◌, map, Option, Some, None, option_map, option_and_then, Result, Ok, Err, OnOk, OnErr, IfOk, IfErr, Bool, true, false, if◌then◌else◌, refl, sym, ap, subst, ◌∙◌, arith}
+use Rattle.std.proofs.Common.{◌≡◌, ℕ, List, [], ◌∷◌, ◌++◌, map, Option, Some, None, option_map, option_and_then, Result, Ok, Err, OnOk, OnErr, IfOk, IfErr, Bool, true, false, if◌then◌else◌, refl, sym, ap, ap₂, subst, ◌∙◌, arith}
 use Rattle.swss_types.specs.declared.out_of_memory.OutOfMemory.{OutOfMemory}
-use Rattle.table_schema.specs.Names.{names_of}
 use Rattle.table_schema.specs.Plan.{Ports}
 use Rattle.table_schema.specs.declared.key.Key.{Key}
-use Rattle.table_schema.specs.declared.row.Row.{Row}
 use Rattle.sai_types.specs.declared.kind.Kind.{Kind}
 use Rattle.sai_types.specs.declared.kind.Kind.TheVariants as kind
 use Rattle.sai_types.specs.declared.thing.Thing.{Thing}
+use Rattle.sai_types.specs.Kinds.{all_kinds}
+use Rattle.switch_model.specs.Placed.{Placed as Row}
 use Rattle.switch_model.specs.declared.wait.Wait.{Wait}
 use Rattle.switch_model.specs.declared.wait.Wait.TheVariants as wait
 use Rattle.row_layout.specs.Operations.{Change, Set, own_changes, same_thing, set_to, take_all}
@@ -17,7 +17,8 @@ use Rattle.ref_counts.specs.Registered.{Registered, first_of, begun_to_go, held_
 use Rattle.ref_counts.specs.Registry.{Names, changed, retire_refusal_at, registered_at, users_at}
 use Rattle.ref_counts.specs.Room.{Reserves, RoomState, lacking, number_of_kind}
 use Rattle.switch_machine.specs.Operations.{built_first}
-use Rattle.orch_flight.specs.Needing.{busy_for, crowded_for, first_unapplied, holder_of, least_of, or_else, pinning, places_for, row_reason, to_build, wait_of, workers_on}
+use Rattle.switch_machine.specs.Places.{makes}
+use Rattle.orch_flight.specs.Needing.{busy_for, crowded_for, first_unapplied, holder_of, least_of, or_else, pinning, places_for, row_names, row_reason, to_build, wait_of, workers_on}
 use Rattle.orch_flight.specs.Sharing.{begun_by, lacks_shared}
 use Rattle.orch_flight.specs.Starting.{IsBegunBy, started_by, started_names, started_names_by}
 use Rattle.orch_flight.specs.Taking.{to_list}
@@ -30,9 +31,16 @@ no_places = 0 ∷ 0 ∷ 0 ∷ 0 ∷ 0 ∷ 0 ∷ 0 ∷ 0 ∷ 0 ∷ 0 ∷ 0 ∷ 0 
 pub places-set : (t u : Thing) (rest : List Change) → places_for (set_to t u rest) ≡ places_for rest
 places-set t u rest = elim (same_thing t u) as (λ b. places_for (if b then rest else Set u ∷ rest) ≡ places_for rest) [ true ↦ refl | false ↦ refl ]
 
+makes-none : (k : Kind) (ts : List Thing) → makes k (take_all ts []) ≡ 0
+makes-none k [] = refl
+makes-none k (t ∷ ts) = let none : makes k (take_all ts []) ≡ 0 = makes-none k ts in omega (arith, none)
+
+all-none : (ts : List Thing) (ks : List Kind) → map (λ k. makes k (take_all ts [])) ks ≡ map (λ k. 0) ks
+all-none ts [] = refl
+all-none ts (k ∷ ks) = ap₂ (λ n ns. n ∷ ns) (makes-none k ts) (all-none ts ks)
+
 pub places-taken : (ts : List Thing) → places_for (take_all ts []) ≡ no_places
-places-taken [] = refl
-places-taken (t ∷ ts) = places-taken ts
+places-taken ts = all-none ts all_kinds
 
 number-none : (k : Kind) → number_of_kind no_places k ≡ 0
 number-none kind.Port = refl
@@ -80,7 +88,7 @@ or_else-then (Some w) b c h = refl
 -- why a row that is to go has to wait
 pub wait-removal : (plan : Ports) (names : Names) (room : RoomState) (used : List ℕ) (worker : ℕ) (k : Key) (old : Option Row) → places_for (own_changes plan k old None) ≡ no_places → wait_of plan names room used worker k old None ≡ retire_refusal_at names worker (name.Row k)
 wait-removal plan names room used worker k old none =
-    or_else-then (holder_of names k None) (busy_for plan names worker k None) (crowded_for plan names room used k old None)
+    or_else-then (holder_of names k old None) (busy_for plan names worker k old None) (crowded_for plan names room used k old None)
     (ap (option_map wait.NoRoom) (lacking-no_need room (places_for (own_changes plan k old None)) used none))
     ∙ sym (retire_refused worker (registered_at names (name.Row k)))
 
@@ -127,32 +135,32 @@ module _ (plan : Ports) (names : Names) (room : RoomState) (used : List ℕ) (wo
 
   -- the same, where the rest is known once nothing is missing
   pub begun-row-when : (r : Row) (applied : Bool) (shared : Option Name) (need : List ℕ) (names' : Names) (room' : RoomState) (res : Result (Result (Unit {0}) Wait) OutOfMemory)
-      → (first_unapplied names (names_of k r) ≡ None → wait_of plan names room used worker k old (Some r) ≡ row_reason names room used (names_of k r) (to_list shared) need)
-      → (first_unapplied names (names_of k r) ≡ None → started_names plan names worker k old (Some r) ≡ begun_by names worker k (names_of k r) applied shared (lacks_shared names shared))
-      → (first_unapplied names (names_of k r) ≡ None → places_for (built_first (to_build plan names k (Some r)) (own_changes plan k old (Some r))) ≡ need)
-      → IfOk res (λ a. OnOk a (row_reason names room used (names_of k r) (to_list shared) need ≡ None))
-      → IfOk res (λ a. OnOk a (names' ≡ begun_by names worker k (names_of k r) applied shared (lacks_shared names shared)))
+      → (first_unapplied names (row_names k r) ≡ None → wait_of plan names room used worker k old (Some r) ≡ row_reason names room used (row_names k r) (to_list shared) need)
+      → (first_unapplied names (row_names k r) ≡ None → started_names plan names worker k old (Some r) ≡ begun_by names worker k (row_names k r) applied shared (lacks_shared names shared))
+      → (first_unapplied names (row_names k r) ≡ None → places_for (built_first (to_build plan names k (Some r)) (own_changes plan k old (Some r))) ≡ need)
+      → IfOk res (λ a. OnOk a (row_reason names room used (row_names k r) (to_list shared) need ≡ None))
+      → IfOk res (λ a. OnOk a (names' ≡ begun_by names worker k (row_names k r) applied shared (lacks_shared names shared)))
       → IfOk res (λ a. OnOk a (Reserves room worker need room'))
-      → IfOk res (λ a. IfErr a (λ w. row_reason names room used (names_of k r) (to_list shared) need ≡ Some w))
+      → IfOk res (λ a. IfErr a (λ w. row_reason names room used (row_names k r) (to_list shared) need ≡ Some w))
       → IfOk res (λ a. OnErr a (names' ≡ names))
       → IfOk res (λ a. OnErr a (room' ≡ room))
       → IfOk res (λ a. IsBegunBy plan names room used worker k old (Some r) a names' room')
   begun-row-when r applied shared need names' room' res reason begun places free is reserves waits same same_room =
       by res free is reserves waits same same_room
     where
-      reason-now : wait_of plan names room used worker k old (Some r) ≡ row_reason names room used (names_of k r) (to_list shared) need
-      reason-now = same-or-missing (first_unapplied names (names_of k r)) (or_else (holder_of names k (Some r)) (or_else (busy_for plan names worker k (Some r)) (crowded_for plan names room used k old (Some r)))) (or_else (option_map wait.Busy (least_of (workers_on names (map name.Row (names_of k r) ++ to_list shared)))) (option_map wait.NoRoom (lacking room need used))) reason
+      reason-now : wait_of plan names room used worker k old (Some r) ≡ row_reason names room used (row_names k r) (to_list shared) need
+      reason-now = same-or-missing (first_unapplied names (row_names k r)) (or_else (holder_of names k old (Some r)) (or_else (busy_for plan names worker k old (Some r)) (crowded_for plan names room used k old (Some r)))) (or_else (option_map wait.Busy (least_of (workers_on names (map name.Row (row_names k r) ++ to_list shared)))) (option_map wait.NoRoom (lacking room need used))) reason
 
       by : (res : Result (Result (Unit {0}) Wait) OutOfMemory)
-          → IfOk res (λ a. OnOk a (row_reason names room used (names_of k r) (to_list shared) need ≡ None))
-          → IfOk res (λ a. OnOk a (names' ≡ begun_by names worker k (names_of k r) applied shared (lacks_shared names shared)))
+          → IfOk res (λ a. OnOk a (row_reason names room used (row_names k r) (to_list shared) need ≡ None))
+          → IfOk res (λ a. OnOk a (names' ≡ begun_by names worker k (row_names k r) applied shared (lacks_shared names shared)))
           → IfOk res (λ a. OnOk a (Reserves room worker need room'))
-          → IfOk res (λ a. IfErr a (λ w. row_reason names room used (names_of k r) (to_list shared) need ≡ Some w))
+          → IfOk res (λ a. IfErr a (λ w. row_reason names room used (row_names k r) (to_list shared) need ≡ Some w))
           → IfOk res (λ a. OnErr a (names' ≡ names))
           → IfOk res (λ a. OnErr a (room' ≡ room))
           → IfOk res (λ a. IsBegunBy plan names room used worker k old (Some r) a names' room')
       by (Ok (Ok x)) free is reserves waits same same_room =
-          let none = none-missing (first_unapplied names (names_of k r)) (or_else (option_map wait.Busy (least_of (workers_on names (map name.Row (names_of k r) ++ to_list shared)))) (option_map wait.NoRoom (lacking room need used))) free in
+          let none = none-missing (first_unapplied names (row_names k r)) (or_else (option_map wait.Busy (least_of (workers_on names (map name.Row (row_names k r) ++ to_list shared)))) (option_map wait.NoRoom (lacking room need used))) free in
           (reason-now ∙ free, is ∙ sym (begun none), subst (λ n. Reserves room worker n room') (sym (places none)) reserves)
       by (Ok (Err w)) free is reserves waits same same_room = (reason-now ∙ waits, same, same_room)
       by (Err e) free is reserves waits same same_room = tt

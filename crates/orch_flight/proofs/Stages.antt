@@ -1,5 +1,5 @@
 -- changes that leave the states of names
-use Rattle.std.proofs.Common.{◌≡◌, ℕ, ◌==◌, Bool, true, false, not, cond, List, [], ◌∷◌, ◌++◌, Option, Some, None, option_map, unwrap_or, refl, sym, ap, ap₂, ◌∙◌, subst}
+use Rattle.std.proofs.Common.{◌≡◌, ℕ, ◌==◌, Bool, true, false, not, cond, List, [], ◌∷◌, ◌++◌, Option, Some, None, option_and_then, option_map, unwrap_or, refl, sym, ap, ap₂, ◌∙◌, subst}
 use Rattle.std.specs.BTreeMap.{insert_entry, is_at}
 use Rattle.std.specs.Ordering.{is_eq}
 use Rattle.std.specs.declared.cmp.Ordering.{Ordering}
@@ -11,8 +11,9 @@ use Rattle.ref_counts.specs.declared.name.Name.{Name}
 use Rattle.ref_counts.specs.declared.name.Name.TheVariants as name
 use Rattle.ref_counts.specs.declared.name.NameState.TheVariants as state
 use Rattle.ref_counts.specs.declared.pin.Pin.{Pin}
-use Rattle.ref_counts.specs.Registered.{Registered, begun, pins_but, released, with_pin}
-use Rattle.ref_counts.specs.Registry.{Names, all_released, changed, changed_at, registered_name_cmp, pinned, registered_at, state_in, state_of}
+use Rattle.switch_model.specs.declared.wait.Wait.{Wait}
+use Rattle.ref_counts.specs.Registered.{Registered, begun, first_of, held_or, least_worker, pins_but, released, retire_refusal, with_pin}
+use Rattle.ref_counts.specs.Registry.{Names, all_released, changed, changed_at, registered_name_cmp, pinned, registered_at, retire_refusal_at, state_in, state_of}
 use Rattle.ref_counts.proofs.Found.{apart_from}
 use Rattle.orch_flight.specs.Starting.{ids_for_row}
 use Rattle.orch_flight.specs.Sharing.{HasNoPins, IsOfShared, IsNameReady, IsLiveOrAbsent, is_absent, lacks_shared, stage_of, with_row_begun, with_shared}
@@ -99,6 +100,35 @@ none-released worker (e ∷ es) h =
 -- pins of a worker that had none, given up again
 pub pins-undone : (worker : ℕ) (user : Key) (ks : List Key) (names : Names) → HasNoPins names worker → all_released worker false (pinned names worker user ks) ≡ names
 pins-undone worker user ks names h = all-pinned worker user ks names ∙ none-released worker names h
+
+-- ---- why a name may not go, while its worker pins names
+
+refusal_step : (worker : ℕ) (e : Name × Registered) (es : Names) (n : Name) (b : Bool) → is_at (registered_name_cmp n) e.0 ≡ b → retire_refusal_at (e ∷ es) worker n ≡ cond b (retire_refusal worker e.1) (retire_refusal_at es worker n)
+refusal_step worker e es n true h = ap (λ b. option_and_then (retire_refusal worker) (cond b (Some e.1) (registered_at es n))) h
+refusal_step worker e es n false h = ap (λ b. option_and_then (retire_refusal worker) (cond b (Some e.1) (registered_at es n))) h
+
+module _ (worker : ℕ) (user : Key) (m : Name) where
+  at_refusal : (e : Name × Registered) → retire_refusal worker (changed_at m (with_pin worker user) e).1 ≡ retire_refusal worker e.1
+  at_refusal e = elim (is_at (registered_name_cmp m) e.0) as (λ b. retire_refusal worker (cond b (e.0, with_pin worker user e.1) e).1 ≡ retire_refusal worker e.1) [
+    | true ↦ ap (λ ps. held_or (first_of e.1.users) (least_worker ps)) (but-push worker user e.1.pins)
+    | false ↦ refl
+  ]
+
+  refusal_pin : (names : Names) (n : Name) → retire_refusal_at (changed names m (with_pin worker user)) worker n ≡ retire_refusal_at names worker n
+  refusal_pin [] n = refl
+  refusal_pin (e ∷ es) n =
+      let rest = refusal_pin es n in
+      let by : (b : Bool) → is_at (registered_name_cmp n) e.0 ≡ b → retire_refusal_at (changed (e ∷ es) m (with_pin worker user)) worker n ≡ retire_refusal_at (e ∷ es) worker n =
+      λ b. λ is. refusal_step worker (changed_at m (with_pin worker user) e) (changed es m (with_pin worker user)) n b (ap (is_at (registered_name_cmp n)) (at-name m (with_pin worker user) (λ r. refl) e) ∙ is) ∙ ap₂ (λ s o. cond b s o) (at_refusal e) rest ∙ sym (refusal_step worker e es n b is) in
+      by (is_at (registered_name_cmp n) e.0) refl
+
+pub refusal-pinned : (worker : ℕ) (user : Key) (ks : List Key) (names : Names) (n : Name) → retire_refusal_at (pinned names worker user ks) worker n ≡ retire_refusal_at names worker n
+refusal-pinned worker user [] names n = refl
+refusal-pinned worker user (k ∷ ks) names n = refusal-pinned worker user ks (changed names (name.Row k) (with_pin worker user)) n ∙ refusal_pin worker user (name.Row k) names n
+
+-- and how it stands
+pub state-pinned : (worker : ℕ) (user : Key) (ks : List Key) (names : Names) (n : Name) → state_of (pinned names worker user ks) n ≡ state_of names n
+state-pinned worker user ks names n = state-stage (pinned names worker user ks) n ∙ ap (λ o. unwrap_or o state.Absent) (stage-pinned names worker user ks n) ∙ sym (state-stage names n)
 
 -- ---- what is shared, while names of rows are pinned and begin to be built
 

@@ -1,5 +1,5 @@
 -- what holds where no reason to wait does
-use Rattle.std.proofs.Common.{◌≡◌, ℕ, List, [], ◌∷◌, ◌++◌, map, Option, Some, None, option_map, if◌then◌else◌, refl, ap, ◌∙◌}
+use Rattle.std.proofs.Common.{◌≡◌, ℕ, List, [], ◌∷◌, ◌++◌, map, Option, Some, None, option_map, if◌then◌else◌, refl, ap, ◌∙◌, append-nil}
 use Rattle.table_schema.specs.declared.key.Key.{Key}
 use Rattle.sai_types.specs.Named.{those}
 use Rattle.switch_model.specs.declared.wait.Wait.{Wait}
@@ -9,9 +9,9 @@ use Rattle.ref_counts.specs.declared.name.Name.TheVariants as name
 use Rattle.ref_counts.specs.declared.name.NameState.{NameState}
 use Rattle.ref_counts.specs.declared.name.NameState.TheVariants as state
 use Rattle.ref_counts.specs.Registered.{Registered}
-use Rattle.ref_counts.specs.Registry.{Names, first_not_live, is_live, owner_in, registered_at, state_in, state_of}
+use Rattle.ref_counts.specs.Registry.{Names, first_not_live, is_live, owner_in, registered_at, retire_refusal_at, state_in, state_of}
 use Rattle.ref_counts.specs.Room.{RoomState, lacking}
-use Rattle.orch_flight.specs.Needing.{first_unapplied, least_of, or_else, row_reason, unapplied_or, workers_on}
+use Rattle.orch_flight.specs.Needing.{first_unapplied, least_of, moved_reason, or_else, refusal_with, row_reason, unapplied_or, workers_on}
 use Rattle.orch_flight.specs.Sharing.{IsNameReady, IsLiveOrAbsent, MayShare, shared_state}
 use Rattle.orch_flight.specs.Taking.{to_list}
 
@@ -83,6 +83,28 @@ module _ (names : Names) (room : RoomState) (used : List ℕ) (ks : List Key) (n
 
   pub reason-free : AreFree names ns
   reason-free = free_tail names ks ns free
+
+-- ---- and for a row that comes in the place of one that goes
+
+no_refusal : (o : Option Wait) (least : Option ℕ) → refusal_with o least ≡ None → (o ≡ None) × (least ≡ None)
+no_refusal None None h = (refl, refl)
+no_refusal None (Some w) h = cc
+no_refusal (Some (wait.Busy w)) least h = cc
+no_refusal (Some (wait.Missing k)) least h = cc
+no_refusal (Some (wait.Held k)) least h = cc
+no_refusal (Some (wait.NoRoom kind)) least h = cc
+
+module _ (names : Names) (worker : ℕ) (k : Key) (ks : List Key) (none : moved_reason names worker k ks ≡ None) where
+  parts : (retire_refusal_at names worker (name.Row k) ≡ None) × (least_of (workers_on names (map name.Row ks)) ≡ None)
+  parts = no_refusal (retire_refusal_at names worker (name.Row k)) (least_of (workers_on names (map name.Row ks))) (second_none (option_map wait.Missing (first_unapplied names ks)) _ none)
+
+  -- its applied row may go
+  pub moved-free : retire_refusal_at names worker (name.Row k) ≡ None
+  moved-free = parts.0
+
+  -- and the keys that are named are live
+  pub moved-named : first_not_live names ks ≡ None
+  moved-named = applied_so_there names ks [] (are_free names (map name.Row ks ++ []) (ap (workers_on names) (append-nil (map name.Row ks)) ∙ no_least _ parts.1)) (unmapped wait.Missing (first_unapplied names ks) (or_else_none _ _ none))
 
 settled : (o : Option Registered) → owner_in (state_in o) ≡ None → (option_map (λ r. r.state) o ≡ Some state.Absent → ⊥) → IsLiveOrAbsent (option_map (λ r. r.state) o)
 settled None free not = tt

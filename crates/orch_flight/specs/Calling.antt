@@ -2,12 +2,12 @@
 use Rattle.std.specs.Prelude.{◌≡◌, ◌⊎◌, true, List, [], ◌∷◌, ◌++◌, map, Option, Some, None, IsSome, option_map, if◌then◌else◌}
 use Rattle.std.specs.BTreeMap.{is_at}
 use Rattle.std.specs.List.{AllByRecursion}
-use Rattle.table_schema.specs.Names.{base_names, router_names}
+use Rattle.swss_types.specs.declared.vrf.Vrf.{Vrf}
+use Rattle.swss_types.specs.declared.vrf.Vrf.TheVariants as vrf
+use Rattle.table_schema.specs.Names.{intf_names, router_names}
 use Rattle.table_schema.specs.Plan.{IsPlan, Ports, port_named}
 use Rattle.table_schema.specs.declared.key.Key.{Key}
 use Rattle.table_schema.specs.declared.key.Key.TheVariants as key
-use Rattle.table_schema.specs.declared.row.Row.{Row}
-use Rattle.table_schema.specs.declared.row.Row.TheVariants as row
 use Rattle.table_schema.specs.declared.row.RouteRow.TheVariants as route
 use Rattle.sai_types.specs.declared.weight.WHop.{WHop}
 use Rattle.sai_types.specs.declared.ids.Vid.{Vid}
@@ -28,6 +28,8 @@ use Rattle.sai_types.specs.Names as thing_name
 use Rattle.sai_types.specs.Names.{name_of}
 use Rattle.chip_layout.specs.Bodies.{IsBody, IsChange}
 use Rattle.chip_layout.specs.Layout.{has_number}
+use Rattle.switch_model.specs.Placed as row
+use Rattle.switch_model.specs.Placed.{Placed as Row}
 use Rattle.row_layout.specs.Operations.{Change, Make, Set, Take, uses_of}
 use Rattle.row_layout.specs.Rows.{Owner, interface_on}
 use Rattle.row_layout.specs.Shared.{shared_things}
@@ -45,6 +47,11 @@ use Rattle.orch_flight.specs.Operation.{Operation}
 abbrev pub row_vid : Names → Option Key → Option Vid
 row_vid names None = None
 row_vid names (Some k) = first_of (ids_of names (name.Row k))
+
+-- the identifier of a virtual router, which the default one has not
+abbrev pub router_vid : Names → Vrf → Option Vid
+router_vid names vrf.Default = None
+router_vid names (vrf.Named label) = row_vid names (Some (key.Vrf label))
 
 -- of a group's identifiers the first is its own, and the others are those of its members
 abbrev pub members_ids : List Vid → List Vid
@@ -152,17 +159,18 @@ pointed _ g = []
 abbrev pub referred : Key → Option Row → Thing → List Name
 referred (key.Member vlan port) new (thing.BridgePort lane) = name.Row (key.Port port) ∷ []
 referred (key.Member vlan port) new (thing.VlanMember v lane tagging) = name.Row (key.Vlan vlan) ∷ name.BridgePort lane ∷ []
-referred (key.Intf n) new (thing.Rif b v) = map name.Row (base_names n)
+referred (key.Intf n) new (thing.Rif b v) = map name.Row (intf_names n v)
+referred (key.Addr n ip len) new (thing.Own v q) = map name.Row (router_names v)
 referred (key.Neigh n ip) new (thing.Neighbor hop mac) = name.Row (key.Intf n) ∷ []
 referred (key.Neigh n ip) new (thing.NextHop hop) = name.Row (key.Intf n) ∷ []
 referred (key.Route v prefix) new (thing.Route w p g) = map name.Row (router_names v) ++ pointed new g
 referred k new t = []
 
--- and those by which it is named itself: a neighbour by its interface; a route by its virtual router, unless that is the default one, in which own addresses are
+-- and those by which it is named itself: a neighbour by its interface; an own address or a route by its virtual router, unless that is the default one
 abbrev pub entered : Key → thing_name.ThingName → List Name
 entered (key.Neigh n ip) (thing_name.Neighbor hop) = name.Row (key.Intf n) ∷ []
 entered k (thing_name.BridgePort lane) = name.BridgePort lane ∷ []
-entered k (thing_name.Own v ip) = []
+entered k (thing_name.Own v ip) = map name.Row (router_names v)
 entered k (thing_name.Route v prefix) = map name.Row (router_names v)
 entered k n = name.Row k ∷ []
 

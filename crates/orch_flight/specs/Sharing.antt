@@ -2,11 +2,10 @@
 use Rattle.std.specs.Prelude.{◌≡◌, ◌<◌, ℕ, Bool, true, false, List, [], ◌∷◌, Option, Some, None, option_map}
 use Rattle.std.specs.List.{AllByRecursion}
 use Rattle.std.specs.BTreeMap.{insert_entry}
-use Rattle.table_schema.specs.Names.{names_of}
 use Rattle.table_schema.specs.Plan.{Ports}
 use Rattle.table_schema.specs.declared.key.Key.{Key}
-use Rattle.table_schema.specs.declared.row.Row.{Row}
 use Rattle.sai_types.specs.Alike.{IsIn}
+use Rattle.switch_model.specs.Placed.{Placed as Row}
 use Rattle.row_layout.specs.Operations.{uses_of}
 use Rattle.row_layout.specs.Rows.{Owner, OfRow, Bridge, Own, Group}
 use Rattle.switch_machine.specs.Flights.{Fits}
@@ -16,7 +15,7 @@ use Rattle.ref_counts.specs.declared.name.NameState.{NameState}
 use Rattle.ref_counts.specs.declared.name.NameState.TheVariants as state
 use Rattle.ref_counts.specs.Registered.{IsReadable, begun, pins_but, with_user}
 use Rattle.ref_counts.specs.Registry.{Names, changed, registered_name_cmp, pinned, registered_at, state_of}
-use Rattle.orch_flight.specs.Needing.{first_unapplied, name_for}
+use Rattle.orch_flight.specs.Needing.{first_unapplied, name_for, row_names}
 use Rattle.orch_flight.specs.Starting.{ids_for, ids_for_row}
 
 -- the owner of what the registry keeps under a name
@@ -101,6 +100,6 @@ pub record MayStart (plan : Ports) (names : Names) (worker : ℕ) (k : Key) (old
   pub applied : (r : Row) → old ≡ Some r → state_of names (name.Row k) ≡ state.Live
   pub some : old ≡ None → new ≡ None → ⊥
   pub old_fits : (r : Row) → old ≡ Some r → Fits plan k r
-  pub new_fits : (r : Row) → new ≡ Some r → first_unapplied names (names_of k r) ≡ None → Fits plan k r
+  pub new_fits : (r : Row) → new ≡ Some r → first_unapplied names (row_names k r) ≡ None → Fits plan k r
   pub shares : (o : Owner) → IsIn o (uses_of plan k new) → MayShare names (Some (name_for o))
   pub shared : (o : Owner) → IsIn o (uses_of plan k old) → state_of names (name_for o) ≡ state.Live

@@ -1,23 +1,34 @@
 -- How an operation starts: what becomes of names and places, and which changes are due. Own.
-use Rattle.std.specs.Prelude.{◌≡◌, ℕ, List, [], ◌∷◌, length, Option, Some, None, Result, Ok, Err, if◌then◌else◌, suc}
+use Rattle.std.specs.Prelude.{◌≡◌, ℕ, List, [], ◌∷◌, length, Option, Some, None, option_map, Result, Ok, Err, if◌then◌else◌, suc}
 use Rattle.std.specs.BTreeMap.{insert_entry}
 use Rattle.std.specs.List.{list_any}
-use Rattle.table_schema.specs.Names.{names_of}
 use Rattle.table_schema.specs.Plan.{Ports}
 use Rattle.swss_types.specs.declared.interface.IfName.TheVariants as on
+use Rattle.swss_types.specs.declared.vrf.Vrf.{Vrf}
+use Rattle.swss_types.specs.declared.vrf.Vrf.TheVariants as vrf
 use Rattle.table_schema.specs.declared.key.Key.{Key}
 use Rattle.table_schema.specs.declared.key.Key.TheVariants as key
-use Rattle.table_schema.specs.declared.row.Row.{Row}
+use Rattle.table_schema.specs.declared.row.Row.{Row as BareRow}
+use Rattle.switch_model.specs.Placed.{Placed as Row, place}
 use Rattle.switch_model.specs.declared.wait.Wait.{Wait}
 use Rattle.row_layout.specs.Operations.{Change, own_changes, same_owner, shared_going, take_all, uses_of}
 use Rattle.row_layout.specs.Rows.{Owner, OfRow, Bridge, Own, Group}
+use Rattle.switch_machine.specs.Flights.{goes_over}
 use Rattle.switch_machine.specs.Operations.{built_first}
 use Rattle.ref_counts.specs.declared.name.Name.TheVariants as name
 use Rattle.ref_counts.specs.Registered.{begun, begun_to_go, with_user, without_user}
 use Rattle.ref_counts.specs.Registry.{Names, changed, registered_name_cmp, pinned, retire_refusal_at}
 use Rattle.ref_counts.specs.Room.{Reserves, RoomState}
-use Rattle.orch_flight.specs.Needing.{name_for, places_for, to_build, wait_of}
+use Rattle.orch_flight.specs.Needing.{name_for, places_for, row_names, to_build, wait_of}
 use Rattle.orch_flight.specs.Operation.{Operation}
+
+-- a row of a table in its place, where an address is in this virtual router
+abbrev pub in_place : Vrf → Option BareRow → Option Row
+in_place v o = option_map (place v) o
+
+-- and a row of another table, whose place is told by its key and itself
+abbrev pub in_default : Option BareRow → Option Row
+in_default o = in_place vrf.Default o
 
 -- ---- names
 
@@ -38,13 +49,12 @@ ids_for (Group hops) = suc (length hops)
 -- the rows that the new row names are pinned for the key
 abbrev pub with_pins : Names → ℕ → Key → Option Row → Names
 with_pins names worker k None = names
-with_pins names worker k (Some r) = pinned names worker k (names_of k r)
+with_pins names worker k (Some r) = pinned names worker k (row_names k r)
 
--- the key's own name: it begins to be built where no row was applied, and to go where none is to be
+-- the key's own name: it begins to be built where no row was applied, and to go where the applied row goes
 abbrev pub with_own : Names → ℕ → Key → Option Row → Option Row → Names
 with_own names worker k None new = insert_entry registered_name_cmp names (name.Row k) (begun worker (ids_for_row k))
-with_own names worker k (Some old) None = changed names (name.Row k) (begun_to_go worker)
-with_own names worker k (Some old) (Some new) = names
+with_own names worker k (Some old) new = if goes_over k (Some old) new then changed names (name.Row k) (begun_to_go worker) else names
 
 -- what is to be built begins to be
 abbrev pub with_building : Names → ℕ → Option Owner → Names

@@ -1,20 +1,21 @@
 -- What becomes of an operation and of names when the call that is due has taken effect. Own.
-use Rattle.std.specs.Prelude.{◌≡◌, ◌≤◌, List, [], ◌∷◌, length, Option, Some, None, is_some}
+use Rattle.std.specs.Prelude.{◌≡◌, ◌≤◌, ℕ, List, [], ◌∷◌, length, Option, Some, None, is_some}
 use Rattle.table_schema.specs.declared.key.Key.{Key}
-use Rattle.table_schema.specs.declared.row.Row.{Row}
-use Rattle.table_schema.specs.declared.row.Row.TheVariants as row
+use Rattle.table_schema.specs.declared.key.Key.TheVariants as key
 use Rattle.sai_types.specs.declared.ids.Vid.{Vid}
 use Rattle.sai_types.specs.declared.thing.Thing.{Thing}
 use Rattle.sai_types.specs.declared.thing.Thing.TheVariants as thing
 use Rattle.sai_types.specs.Names as thing_name
 use Rattle.chip_layout.specs.Layout.{has_number}
+use Rattle.switch_model.specs.Placed as row
+use Rattle.switch_model.specs.Placed.{Placed as Row}
 use Rattle.row_layout.specs.Operations.{Change, Make, Set, Take}
 use Rattle.row_layout.specs.Rows.{Owner}
 use Rattle.ref_counts.specs.declared.name.Name.{Name}
 use Rattle.ref_counts.specs.declared.name.Name.TheVariants as name
 use Rattle.ref_counts.specs.declared.name.NameState.TheVariants as state
 use Rattle.ref_counts.specs.Registered.{made_live}
-use Rattle.ref_counts.specs.Registry.{Names, changed, gone_from, places_of, state_of}
+use Rattle.ref_counts.specs.Registry.{Names, changed, gone_from, ids_of, places_of, state_of}
 use Rattle.orch_flight.specs.Needing.{name_for}
 use Rattle.orch_flight.specs.Operation.{Operation}
 use Rattle.orch_flight.specs.Starting.{left_names, retired_by, taken_here}
@@ -23,7 +24,7 @@ abbrev pub to_list : {X : Type 0} → Option X → List X
 to_list None = []
 to_list (Some x) = x ∷ []
 
--- what is made makes its name live, with its identifier where it has one; of a neighbour's row the next hop does; a row whose objects have none is made live at the operation's end
+-- what is made makes its name live, with its identifier where it has one, be the name built or come back; of a neighbour's row the next hop does; a row whose objects have none is made live at the operation's end
 abbrev pub names_after_made : Names → Key → Thing → Option Vid → Names
 names_after_made names k (thing.BridgePort lane) made = changed names (name.BridgePort lane) (made_live (to_list made))
 names_after_made names k (thing.Own v ip) made = changed names (name.Own v ip) (made_live [])
@@ -83,9 +84,14 @@ built_name k (thing.Group hops) = None
 built_name k (thing.GroupMember hops hop) = None
 built_name k t = Some (name.Row k)
 
--- a change is due; an identifier came exactly where the call made one; what the change makes live the worker builds, with a place for the identifier; and what the operation has to leave is live
+-- a name may be made live: the worker builds it, with places for the identifiers; or, of an interface that has gone and is made in another virtual router, the worker retires it, and it had as many identifiers
+abbrev pub MayBeLive : Names → ℕ → Name → Option Row → List Vid → Type 0
+MayBeLive names worker (name.Row (key.Intf n)) (Some old) ids = (state_of names (name.Row (key.Intf n)) ≡ state.Retiring worker) × (length ids ≡ length (ids_of names (name.Row (key.Intf n))))
+MayBeLive names worker n now ids = (state_of names n ≡ state.Building worker) × (length ids ≤ places_of names n)
+
+-- a change is due; an identifier came exactly where the call made one; what the change makes live may become that; and what the operation has to leave is live
 pub record MayTake (operation : Operation) (made : Option Vid) (names : Names) : Type 0 where
   pub some : operation.due ≡ [] → ⊥
   pub numbered : (t : Thing) (rest : List Change) → operation.due ≡ Make t ∷ rest → is_some made ≡ has_number t
-  pub builds : (t : Thing) (rest : List Change) (n : Name) → operation.due ≡ Make t ∷ rest → built_name operation.key t ≡ Some n → (state_of names n ≡ state.Building operation.worker) × (length (to_list made) ≤ places_of names n)
+  pub builds : (t : Thing) (rest : List Change) (n : Name) → operation.due ≡ Make t ∷ rest → built_name operation.key t ≡ Some n → MayBeLive names operation.worker n operation.now (to_list made)
   pub leaves : (o : Owner) → operation.leaves ≡ Some o → state_of names (name_for o) ≡ state.Live

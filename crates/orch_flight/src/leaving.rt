@@ -3,13 +3,14 @@ ghost use Rattle.std.specs.Prelude.{◌≡◌, ◌↔◌, None, Some, IsSome, Is
 ghost use Rattle.ref_counts.specs.declared.name.NameState.TheVariants.{Live};
 ghost use Rattle.ref_counts.specs.Registered.{first_of, begun_to_go};
 ghost use Rattle.ref_counts.specs.Registry.{changed, ids_of, retire_refusal_at, state_of};
+ghost use Rattle.orch_flight.specs.Calling.{router_vid};
 ghost use Rattle.orch_flight.specs.Starting.{left_names, retired_by};
 ghost use Rattle.orch_flight.specs.Sharing.{owner_for};
 
 use ref_counts::{Name, Registry};
 use sai_types::Vid;
 use switch_model::Wait;
-use swss_types::OutOfMemory;
+use swss_types::{OutOfMemory, Vrf};
 use table_schema::Key;
 
 /// Begins to take the applied row of a key away, or tells why it has to wait: the least key whose row names it, or else the
@@ -51,5 +52,15 @@ pub fn vid(reg: &Registry, name: &Name) -> Vid
     match reg.vid_of(name) {
         Some(vid) => vid,
         None => unreachable!(),
+    }
+}
+
+/// The identifier of a virtual router, which the default one has not.
+pub fn router_vid(reg: &Registry, router: Vrf) -> Option<Vid>
+    ensures { result ≡ router_vid reg.now router }
+{
+    match router {
+        Vrf::Default => None,
+        Vrf::Named(label) => reg.vid_of(&Name::Row(Key::Vrf(label))),
     }
 }

@@ -45,7 +45,7 @@ pub fn unapplied(reg: &Registry, key: &Key) -> Result<Option<Key>, OutOfMemory>
 
 /// The least worker whose operation builds the rows of some keys and what is shared, or takes them away. Err is the first of
 /// the keys that is not applied. Each name is looked up once.
-fn least_on(
+pub fn least_on(
     reg: &Registry,
     keys: &[Key],
     shared: &Option<Name>,
@@ -88,7 +88,7 @@ pub fn owner(state: NameState) -> Option<u32>
 }
 
 /// The lesser of a worker and another, where there is one.
-fn lesser(worker: u32, other: Option<u32>) -> u32
+pub fn lesser(worker: u32, other: Option<u32>) -> u32
     ensures { result ≡ lesser worker other }
 {
     match other {

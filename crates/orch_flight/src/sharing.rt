@@ -1,5 +1,6 @@
 // What rows stand on and share.
 ghost use Rattle.std.specs.Prelude.{◌≡◌, ◌<◌, [], ◌∷◌, IfOk};
+ghost use Rattle.switch_model.specs.Placed.{place};
 ghost use Rattle.switch_model.specs.Things.{base_of, hops_of, lane_of, whop_of};
 ghost use Rattle.row_layout.specs.Rows.{Bridge, from};
 ghost use Rattle.row_layout.specs.Shared.{address_uses, group_by, uses};
@@ -35,19 +36,20 @@ pub fn base_of(plan: &PortPlan, on: IfName) -> Option<Base>
     }
 }
 
-/// What a row of this key shares with other rows, if anything.
+/// What a row of this key shares with other rows, if anything: an address that is in this virtual router its own address there.
 pub fn shared(
     alloc: Global,
     plan: &PortPlan,
+    router: &Vrf,
     key: &Key,
     row: &Row,
 ) -> Result<Option<Name>, OutOfMemory>
-    ensures value { IfOk result (λ name. uses plan.now key.now row.now ≡ owners_of name) }
+    ensures value { IfOk result (λ name. uses plan.now key.now (place router.now row.now) ≡ owners_of name) }
     ensures kind { IfOk result (λ name. AreOfShared name) }
 {
     match (key, row) {
         (Key::Member(_, port), Row::Member(_)) => Ok(bridge_of(plan, *port)),
-        (Key::Addr(on, ip, _), Row::Addr) => Ok(own_of(plan, *on, *ip)),
+        (Key::Addr(on, ip, _), Row::Addr) => Ok(own_of(plan, router, *on, *ip)),
         (Key::Route(..), Row::Route(RouteRow::Hops(hops))) => group_of(alloc, plan, hops),
         _ => Ok(None),
     }
@@ -64,18 +66,17 @@ pub fn bridge_of(plan: &PortPlan, port: u32) -> Option<Name>
     }
 }
 
-/// An interface's address as the switch's own in the default router, unless the interface is on a port that is not in the
-/// plan.
-pub fn own_of(plan: &PortPlan, on: IfName, ip: Ip) -> Option<Name>
-    ensures value { address_uses plan.now on ip ≡ owners_of result }
+/// An interface's address as the switch's own in a virtual router, unless the interface is on a port that is not in the plan.
+pub fn own_of(plan: &PortPlan, router: &Vrf, on: IfName, ip: Ip) -> Option<Name>
+    ensures value { address_uses plan.now on router.now ip ≡ owners_of result }
     ensures kind { AreOfShared result }
 {
     match on {
         IfName::Ethernet(port) => match lane_of(plan, port) {
-            Some(_) => Some(Name::Own(Vrf::Default, ip)),
+            Some(_) => Some(Name::Own(*router, ip)),
             None => None,
         },
-        IfName::Vlan(_) | IfName::Loopback(_) => Some(Name::Own(Vrf::Default, ip)),
+        IfName::Vlan(_) | IfName::Loopback(_) => Some(Name::Own(*router, ip)),
     }
 }
 

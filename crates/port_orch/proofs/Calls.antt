@@ -4,7 +4,7 @@ use Rattle.std.proofs.lemmas.Bool.{false≢true}
 use Rattle.table_schema.specs.Plan.{IsPlan, Ports, lanes_in_plan}
 use Rattle.table_schema.specs.declared.key.Key.TheVariants as key
 use Rattle.table_schema.specs.declared.row.PortRow.{PortRow}
-use Rattle.table_schema.specs.declared.row.Row.TheVariants as row
+use Rattle.switch_model.specs.Placed as row
 use Rattle.sai_types.specs.Alike.{IsIn}
 use Rattle.sai_types.specs.Named.{first_lane}
 use Rattle.sai_types.specs.Names as thing_name

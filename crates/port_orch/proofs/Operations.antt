@@ -1,12 +1,12 @@
 -- the operation with which a port's start leaves
 use Rattle.std.proofs.Common.{◌≡◌, ℕ, false, List, [], ◌∷◌, Option, Some, None, option_map, Result, Ok, Err, refl, sym, ap, subst, ◌∙◌, Bor}
-use Rattle.table_schema.specs.Names.{names_of}
 use Rattle.table_schema.specs.Plan.{Ports, lanes_in_plan}
 use Rattle.table_schema.specs.declared.key.Key.{Key}
 use Rattle.table_schema.specs.declared.key.Key.TheVariants as key
 use Rattle.table_schema.specs.declared.row.PortRow.{PortRow}
-use Rattle.table_schema.specs.declared.row.Row.{Row}
-use Rattle.table_schema.specs.declared.row.Row.TheVariants as row
+use Rattle.table_schema.specs.declared.row.Row.{Row as BareRow}
+use Rattle.switch_model.specs.Placed.{Placed as Row}
+use Rattle.switch_model.specs.Placed as row
 use Rattle.sai_types.specs.Named.{first_lane}
 use Rattle.switch_model.specs.declared.wait.Wait.{Wait}
 use Rattle.row_layout.specs.Operations.{make_all, take_all}
@@ -14,10 +14,10 @@ use Rattle.row_layout.specs.Rows.{from}
 use Rattle.ref_counts.specs.Registry.{Names}
 use Rattle.ref_counts.specs.Room.{RoomState}
 use Rattle.switch_machine.specs.Flights.{Fits}
-use Rattle.orch_flight.specs.Needing.{first_unapplied}
+use Rattle.orch_flight.specs.Needing.{first_unapplied, row_names}
 use Rattle.orch_flight.specs.Operation.{Operation}
 use Rattle.orch_flight.specs.Sharing.{MayStart}
-use Rattle.orch_flight.specs.Starting.{IsBegunBy, IsStartedBy, begun_names, first_due, leaving, started_by, started_operation, flown}
+use Rattle.orch_flight.specs.Starting.{IsBegunBy, IsStartedBy, begun_names, first_due, leaving, started_by, started_operation, flown, in_default}
 use Rattle.orch_flight.proofs.Begins.{started-plain}
 use Rattle.port_orch.specs.Ports.{IsPortStart, IsPortKey, IsPortRow, port_due, port_operation, port_thing}
 
@@ -72,8 +72,8 @@ module _ (plan : Ports) (names : Names) (room : RoomState) (used : List ℕ) (wo
       (subst (Turns names' room' res (key.Port p) (option_map row.Port now) (option_map row.Port next)) (sym is)
       (λ of_old of_new begun. started plan names room used worker p now next names' room' res (fits_as_planned plan p now of_old) (fits_as_planned plan p next of_new) begun))))
 
-  names-none : (k : Key) (old new : Option Row) (flight : Operation) → IsPortStart worker k old new flight → (r : Row) → first_unapplied names (names_of k r) ≡ None
-  names-none k old new flight (p, now, next, is_key, is_old, is_new, is) r = ap (λ z. first_unapplied names (names_of z r)) is_key
+  names-none : (k : Key) (old new : Option Row) (flight : Operation) → IsPortStart worker k old new flight → (r : Row) → first_unapplied names (row_names k r) ≡ None
+  names-none k old new flight (p, now, next, is_key, is_old, is_new, is) r = ap (λ z. first_unapplied names (row_names z r)) is_key
 
   -- the same, for the rows that are given
   pub started-as : (k : Key) (old new old' new' : Option Row) (flight : Operation) (res : Result (Unit {0}) Wait) (answer : Result Operation Wait) (names' : Names) (room' : RoomState)
@@ -94,6 +94,6 @@ port-row plan k (Some r) is fits = elim is [ ]
 pub may-as : (plan : Ports) (names : Names) (worker : ℕ) (k : Key) (old new old' new' : Option Row) → old ≡ old' → new ≡ new' → MayStart plan names worker k old new → MayStart plan names worker k old' new'
 may-as plan names worker k old new old' new' o n may = subst (λ z. MayStart plan names worker k old' z) n (subst (λ z. MayStart plan names worker k z new) o may)
 
--- the rows behind references
-abbrev pub rows : Option (Bor Row) → Option Row
-rows o = option_map (λ r. r.now) o
+-- the rows behind references, in their places
+abbrev pub rows : Option (Bor BareRow) → Option Row
+rows o = in_default (option_map (λ r. r.now) o)

@@ -1,11 +1,10 @@
 -- the start of a port's operation
 use Rattle.std.proofs.Common.{◌≡◌, ℕ, false, true, List, [], ◌∷◌, Option, Some, None, option_map, refl, ap, ◌∙◌}
-use Rattle.table_schema.specs.Names.{names_of}
 use Rattle.table_schema.specs.Plan.{Ports, lanes_in_plan}
 use Rattle.table_schema.specs.declared.key.Key.{Key}
 use Rattle.table_schema.specs.declared.key.Key.TheVariants as key
-use Rattle.table_schema.specs.declared.row.Row.{Row}
-use Rattle.table_schema.specs.declared.row.Row.TheVariants as row
+use Rattle.switch_model.specs.Placed.{Placed as Row}
+use Rattle.switch_model.specs.Placed as row
 use Rattle.sai_types.specs.Named.{first_lane}
 use Rattle.switch_model.specs.declared.wait.Wait.TheVariants as wait
 use Rattle.row_layout.specs.Operations.{make_all, own_changes, thing_of_port, set_to}
@@ -16,7 +15,7 @@ use Rattle.ref_counts.specs.Registry.{Names, changed}
 use Rattle.ref_counts.specs.Room.{RoomState, lacking}
 use Rattle.switch_machine.specs.Flights.{Fits}
 use Rattle.switch_machine.specs.Operations.{built_first}
-use Rattle.orch_flight.specs.Needing.{first_unapplied, places_for, row_reason, to_build, wait_of}
+use Rattle.orch_flight.specs.Needing.{first_unapplied, places_for, row_names, row_reason, to_build, wait_of}
 use Rattle.orch_flight.specs.Sharing.{begun_by, lacks_shared}
 use Rattle.orch_flight.specs.Starting.{first_due, started_names}
 use Rattle.orch_flight.proofs.Begins.{names-plain, no_places, places-set, places-taken}
@@ -26,7 +25,7 @@ abbrev pub made : List ℕ
 made = 1 ∷ 0 ∷ 0 ∷ 0 ∷ 0 ∷ 0 ∷ 0 ∷ 0 ∷ 0 ∷ 0 ∷ 0 ∷ 0 ∷ []
 
 -- a port's row names nothing
-pub no-names : (names : Names) (k : Key) (r : Row) → IsPortKey k → first_unapplied names (names_of k r) ≡ None
+pub no-names : (names : Names) (k : Key) (r : Row) → IsPortKey k → first_unapplied names (row_names k r) ≡ None
 no-names names (key.Port p) r is = refl
 no-names names _ r is = elim is [ ]
 

@@ -3,8 +3,8 @@ use Rattle.std.specs.Prelude.{◌≡◌, ℕ, ◌==◌, Bool, true, false, List,
 use Rattle.table_schema.specs.declared.key.Key.{Key}
 use Rattle.table_schema.specs.declared.key.Key.TheVariants as key
 use Rattle.table_schema.specs.declared.row.PortRow.{PortRow}
-use Rattle.table_schema.specs.declared.row.Row.{Row}
-use Rattle.table_schema.specs.declared.row.Row.TheVariants as row
+use Rattle.switch_model.specs.Placed.{Placed as Row}
+use Rattle.switch_model.specs.Placed as row
 use Rattle.sai_types.specs.declared.ids.Vid.{Vid}
 use Rattle.sai_types.specs.declared.body.Attr.{Attr}
 use Rattle.sai_types.specs.declared.body.Attr.TheVariants as attr

@@ -1,9 +1,10 @@
 // The operation of a port.
 ghost use Rattle.std.specs.Prelude.{◌≡◌, ◌↔◌, [], ◌∷◌, IsSome, IsTrue, Some, None, option_map, IfOk, OnErr};
 ghost use Rattle.table_schema.specs.Plan.{Ports};
+ghost use Rattle.switch_model.specs.Placed as placed;
 ghost use Rattle.orch_flight.specs.Calling.{IsNextOf, IsOver, KnowsIds};
 ghost use Rattle.orch_flight.specs.Sharing.{MayStart};
-ghost use Rattle.orch_flight.specs.Starting.{IsStartedBy, flown};
+ghost use Rattle.orch_flight.specs.Starting.{IsStartedBy, flown, in_default};
 ghost use Rattle.orch_flight.specs.Taking.{IsTook, MayTake};
 ghost use Rattle.ref_counts.specs.Registered.{first_of};
 ghost use Rattle.ref_counts.specs.Registry.{ids_of};
@@ -55,8 +56,8 @@ impl PortFlight {
         new: Option<&Row>,
     ) -> Result<Result<PortFlight, Wait>, OutOfMemory>
         requires port { IsPortKey key.now }
-        requires may { MayStart plan.now reg.old worker key.now (option_map (λ r. r.now) old) (option_map (λ r. r.now) new) }
-        ensures started { IfOk result (λ answer. IsStartedBy plan.now reg.old room.old used.now worker key.now (option_map (λ r. r.now) old.entry) (option_map (λ r. r.now) new.entry) answer reg.new room.new) }
+        requires may { MayStart plan.now reg.old worker key.now (in_default (option_map (λ r. r.now) old)) (in_default (option_map (λ r. r.now) new)) }
+        ensures started { IfOk result (λ answer. IsStartedBy plan.now reg.old room.old used.now worker key.now (in_default (option_map (λ r. r.now) old.entry)) (in_default (option_map (λ r. r.now) new.entry)) answer reg.new room.new) }
         ensures err { OnErr result (reg.new ≡ reg.old) }
         ensures err_room { OnErr result (room.new ≡ room.old) }
     {
@@ -81,9 +82,9 @@ impl PortFlight {
         new: Option<&Row>,
     ) -> Result<PortFlight, OutOfMemory>
         requires port { IsPortKey key.now }
-        requires old { IsPortRow (option_map (λ r. r.now) old) }
-        requires new { IsPortRow (option_map (λ r. r.now) new) }
-        ensures { IfOk result (IsPortStart worker key.now (option_map (λ r. r.now) old.entry) (option_map (λ r. r.now) new.entry)) }
+        requires old { IsPortRow (in_default (option_map (λ r. r.now) old)) }
+        requires new { IsPortRow (in_default (option_map (λ r. r.now) new)) }
+        ensures { IfOk result (IsPortStart worker key.now (in_default (option_map (λ r. r.now) old.entry)) (in_default (option_map (λ r. r.now) new.entry))) }
     {
         let Key::Port(port) = key else {
             unreachable!();
@@ -168,8 +169,8 @@ impl PortFlight {
 
 /// A copy of a port's row, where there is one.
 fn port_row(given: Option<&Row>) -> Result<Option<PortRow>, OutOfMemory>
-    requires { IsPortRow (option_map (λ r. r.now) given) }
-    ensures { IfOk result (λ port. option_map Row.Port port ≡ option_map (λ r. r.now) given.entry) }
+    requires { IsPortRow (in_default (option_map (λ r. r.now) given)) }
+    ensures { IfOk result (λ port. option_map placed.Port port ≡ in_default (option_map (λ r. r.now) given.entry)) }
 {
     match given {
         Some(Row::Port(row)) => Ok(Some(row.copy()?)),

@@ -1,7 +1,7 @@
 // How the operation of a port starts.
 ghost use Rattle.std.specs.Prelude.{◌≡◌, None, Some, option_map, IfOk, OnErr};
 ghost use Rattle.orch_flight.specs.Sharing.{MayStart};
-ghost use Rattle.orch_flight.specs.Starting.{IsBegunBy};
+ghost use Rattle.orch_flight.specs.Starting.{IsBegunBy, in_default};
 ghost use Rattle.port_orch.specs.Ports.{IsPortKey};
 
 use orch_flight::{start_row, try_remove};
@@ -28,8 +28,8 @@ pub fn add(
     _new: &Row,
 ) -> Result<Result<(), Wait>, OutOfMemory>
     requires port { IsPortKey key.now }
-    requires may { MayStart _plan.now reg.old worker key.now None (Some _new.now) }
-    ensures begun { IfOk result (λ answer. IsBegunBy _plan.now reg.old room.old used.now worker key.now None (Some _new.now) answer reg.new room.new) }
+    requires may { MayStart _plan.now reg.old worker key.now None (in_default (Some _new.now)) }
+    ensures begun { IfOk result (λ answer. IsBegunBy _plan.now reg.old room.old used.now worker key.now None (in_default (Some _new.now)) answer reg.new room.new) }
     ensures err { OnErr result (reg.new ≡ reg.old) }
     ensures err_room { OnErr result (room.new ≡ room.old) }
 {
@@ -48,8 +48,8 @@ pub fn change(
     _new: &Row,
 ) -> Result<Result<(), Wait>, OutOfMemory>
     requires port { IsPortKey key.now }
-    requires may { MayStart _plan.now reg.old worker key.now (Some _old.now) (Some _new.now) }
-    ensures begun { IfOk result (λ answer. IsBegunBy _plan.now reg.old room.old used.now worker key.now (Some _old.now) (Some _new.now) answer reg.new room.new) }
+    requires may { MayStart _plan.now reg.old worker key.now (in_default (Some _old.now)) (in_default (Some _new.now)) }
+    ensures begun { IfOk result (λ answer. IsBegunBy _plan.now reg.old room.old used.now worker key.now (in_default (Some _old.now)) (in_default (Some _new.now)) answer reg.new room.new) }
     ensures err { OnErr result (reg.new ≡ reg.old) }
     ensures err_room { OnErr result (room.new ≡ room.old) }
 {
@@ -67,8 +67,8 @@ pub fn remove(
     _old: &Row,
 ) -> Result<Result<(), Wait>, OutOfMemory>
     requires port { IsPortKey key.now }
-    requires may { MayStart _plan.now reg.old worker key.now (Some _old.now) None }
-    ensures begun { IfOk result (λ answer. IsBegunBy _plan.now reg.old room.now used.now worker key.now (Some _old.now) None answer reg.new room.now) }
+    requires may { MayStart _plan.now reg.old worker key.now (in_default (Some _old.now)) None }
+    ensures begun { IfOk result (λ answer. IsBegunBy _plan.now reg.old room.now used.now worker key.now (in_default (Some _old.now)) None answer reg.new room.now) }
     ensures err { OnErr result (reg.new ≡ reg.old) }
 {
     try_remove(reg, worker, key)

@@ -17,7 +17,9 @@ use Rattle.ref_counts.specs.declared.name.Name.TheVariants as name
 use Rattle.ref_counts.specs.declared.pin.Pin.{Pin}
 use Rattle.ref_counts.specs.declared.places.Places.TheInside.{Inside}
 use Rattle.ref_counts.specs.Kept.{AreReadable, ComesBeforeRoutes, Kept, is_pinned, marked_in, settled, users_in, with_routes}
-use Rattle.ref_counts.specs.Parted.{Destination, destination_cmp, route_key, route_name}
+use Rattle.ref_counts.specs.declared.destination.Destination.{Destination}
+use Rattle.ref_counts.specs.Destinations.{destination_cmp}
+use Rattle.ref_counts.specs.Parted.{route_key, route_name}
 use Rattle.late_maps.specs.Segments.{renamed}
 use Rattle.ref_counts.specs.Registered.{IsReadable, first_of}
 use Rattle.ref_counts.proofs.Partings.{row_below, turned}

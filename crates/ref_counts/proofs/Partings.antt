@@ -21,7 +21,9 @@ use Rattle.table_schema.specs.declared.key.Key.TheVariants as key
 use Rattle.ref_counts.specs.declared.name.Name.{Name}
 use Rattle.ref_counts.specs.declared.name.Name.TheVariants as name
 use Rattle.ref_counts.specs.declared.registrations.Registrations.TheInside.{Inside}
-use Rattle.ref_counts.specs.Parted.{AreParted, Destination, IsAmongRows, IsAmongOthers, Neighbor, all_names, table_place_of_name, destination_cmp, neighbor_key_cmp, neighbor_name, place_of_groups, place_of_neighbors, place_of_routes, route_key, route_name}
+use Rattle.ref_counts.specs.declared.destination.Destination.{Destination}
+use Rattle.ref_counts.specs.Destinations.{destination_cmp}
+use Rattle.ref_counts.specs.Parted.{AreParted, IsAmongRows, IsAmongOthers, Neighbor, all_names, table_place_of_name, neighbor_key_cmp, neighbor_name, place_of_groups, place_of_neighbors, place_of_routes, route_key, route_name}
 use Rattle.late_maps.specs.Segments.{renamed}
 use Rattle.ref_counts.specs.Registered.{Registered}
 use Rattle.ref_counts.specs.Registry.{Names, registered_name_cmp}

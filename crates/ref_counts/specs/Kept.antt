@@ -8,7 +8,8 @@ use Rattle.late_maps.specs.Segments.{renamed}
 use Rattle.table_schema.specs.Key.{key_cmp, table_place}
 use Rattle.table_schema.specs.declared.key.Key.{Key}
 use Rattle.ref_counts.specs.declared.pin.Pin.{Pin}
-use Rattle.ref_counts.specs.Parted.{Destination, place_of_routes, route_key}
+use Rattle.ref_counts.specs.declared.destination.Destination.{Destination}
+use Rattle.ref_counts.specs.Parted.{place_of_routes, route_key}
 use Rattle.ref_counts.specs.Registered.{IsReadable}
 
 -- keys, each with whether it is a user whatever pins there are: the others are users where no pin is for them

@@ -1,4 +1,5 @@
 pub mod Claimed
+pub mod Destinations
 pub mod Kept
 pub mod Lent
 pub mod Parted

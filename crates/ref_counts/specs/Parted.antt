@@ -7,16 +7,14 @@ use Rattle.std.specs.Ordering.{ordering_then}
 use Rattle.std.specs.declared.cmp.Ordering.{Ordering}
 use Rattle.late_maps.specs.Segments.{renamed}
 use Rattle.sai_types.specs.declared.weight.WHop.{WHop}
-use Rattle.swss_types.specs.AddressOrder.{ip_cmp, prefix_cmp}
+use Rattle.swss_types.specs.AddressOrder.{ip_cmp}
 use Rattle.swss_types.specs.NameOrder.{name_cmp}
-use Rattle.swss_types.specs.Vrf.{vrf_cmp}
 use Rattle.swss_types.specs.declared.address.Ip.{Ip}
-use Rattle.swss_types.specs.declared.address.Prefix.{Prefix}
 use Rattle.swss_types.specs.declared.interface.IfName.{IfName}
-use Rattle.swss_types.specs.declared.vrf.Vrf.{Vrf}
 use Rattle.table_schema.specs.Key.{table_place}
 use Rattle.table_schema.specs.declared.key.Key.{Key}
 use Rattle.table_schema.specs.declared.key.Key.TheVariants as key
+use Rattle.ref_counts.specs.declared.destination.Destination.{Destination}
 use Rattle.ref_counts.specs.declared.name.Name.{Name}
 use Rattle.ref_counts.specs.declared.name.Name.TheVariants as name
 use Rattle.ref_counts.specs.declared.part.Part.{Part}
@@ -52,19 +50,11 @@ neighbor_name n = name.Row (key.Neigh n.0 n.1)
 abbrev pub neighbor_key_cmp : Neighbor → Neighbor → Ordering
 neighbor_key_cmp m n = ordering_then (name_cmp m.0 n.0) (ip_cmp m.1 n.1)
 
--- a route is a prefix in a virtual router
-abbrev pub Destination : Type 0
-Destination = Vrf × Prefix
-
 abbrev pub route_key : Destination → Key
-route_key d = key.Route d.0 d.1
+route_key d = key.Route d.vrf d.prefix
 
 abbrev pub route_name : Destination → Name
 route_name d = name.Row (route_key d)
-
--- by router, and then by prefix
-abbrev pub destination_cmp : Destination → Destination → Ordering
-destination_cmp d e = ordering_then (vrf_cmp d.0 e.0) (prefix_cmp d.1 e.1)
 
 -- keys before those of the neighbours
 abbrev pub IsAmongRows : Key → Type 0

@@ -1,7 +1,7 @@
 // Changes of what is known of one name.
 ghost use Rattle.std.specs.Prelude.{◌≡◌, ◌≤◌, ◌↔◌, true, false, None, Some, length, IfOk, IfErr, OnOk, OnErr, IsTrue};
 ghost use Rattle.ref_counts.specs.Registered.{IsReadable, begun_to_go, made_live, released, with_pin, with_user, without_last_pin, without_user};
-ghost use Rattle.ref_counts.specs.Registry.{changed, finished_in, gone_from, is_live, places_of, retire_refusal_at, state_of};
+ghost use Rattle.ref_counts.specs.Registry.{changed, finished_in, gone_from, ids_of, is_live, is_retiring, places_of, retire_refusal_at, state_of};
 
 use crate::registrations::Registrations;
 use crate::unpinned::Unpinned;
@@ -38,6 +38,17 @@ pub fn make_live(names: &mut Registrations, name: &Name, ids: &[Vid])
 {
     if let Some(registration) = names.get_mut(name) {
         registration.make_live(ids);
+    }
+}
+
+/// A name that was retiring is there again, with these identifiers in place of those that it had: as many.
+pub fn bring_back(names: &mut Registrations, name: &Name, ids: &[Vid])
+    requires retires { is_retiring (state_of names.old name.now) ≡ true }
+    requires many { length ids.now ≡ length (ids_of names.old name.now) }
+    ensures { names.new ≡ changed names.old name.now (made_live ids.now) }
+{
+    if let Some(registration) = names.get_mut(name) {
+        registration.come_back(ids);
     }
 }
 
@@ -81,6 +92,16 @@ pub fn drop_user(names: &mut Registrations, name: &Name, user: &Key)
 {
     if let Some(registration) = names.get_mut(name) {
         registration.drop_user(user);
+    }
+}
+
+/// Why a worker may not take a name away.
+pub fn refusal(names: &Registrations, name: &Name, worker: u32) -> Option<Wait>
+    ensures { result ≡ retire_refusal_at names.now worker name.now }
+{
+    match names.get(name) {
+        Some(registration) => registration.refusal(worker),
+        None => None,
     }
 }
 

@@ -5,6 +5,7 @@ ghost use Rattle.ref_counts.specs.Registered.{IsReadable};
 use table_schema::Key;
 
 /// A readable key once more; this takes no memory. Unreadable keys are not for it: `Key::copy` copies their text.
+#[inline(always)]
 pub fn copied(key: &Key) -> Key
     requires { IsReadable key.now }
     ensures { result ≡ key.now }

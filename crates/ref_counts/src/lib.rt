@@ -5,6 +5,7 @@ mod boxed_claims;
 mod changes;
 mod claims;
 mod copying;
+mod destination;
 mod laws;
 mod name;
 mod near_in_tables;

@@ -2,8 +2,9 @@
 ghost use Rattle.ref_counts.specs.Parted.{IsPart, IsPartOf};
 
 use crate::Name;
+use crate::destination::Destination;
 use sai_types::Hops;
-use swss_types::{IfName, Ip, Prefix, Vrf};
+use swss_types::{IfName, Ip};
 use table_schema::Key;
 
 /// What stands for a name in its part. Names are in order, and so are their parts.
@@ -14,7 +15,7 @@ pub enum Part<R, N, G> {
     /// The interface and the address of a neighbour.
     Neighbor((IfName, Ip)),
     /// The virtual router and the prefix of a route.
-    Route((Vrf, Prefix)),
+    Route(Destination),
     /// A name that comes behind the routes and before the groups.
     Other(N),
     /// The hops of a group.
@@ -28,7 +29,10 @@ pub fn part_of(name: &Name) -> Part<&Key, &Name, &Hops>
 {
     match name {
         Name::Row(Key::Neigh(on, ip)) => Part::Neighbor((*on, *ip)),
-        Name::Row(Key::Route(vrf, prefix)) => Part::Route((*vrf, *prefix)),
+        Name::Row(Key::Route(vrf, prefix)) => Part::Route(Destination {
+            vrf: *vrf,
+            prefix: *prefix,
+        }),
         Name::Row(Key::Other(_)) => Part::Other(name),
         Name::Row(key) => Part::Row(key),
         Name::Group(hops) => Part::Group(hops),
@@ -42,11 +46,21 @@ pub fn into_part(name: Name) -> Part<Key, Name, Hops>
     ensures { IsPart result name }
 {
     match name {
-        Name::Row(Key::Neigh(on, ip)) => Part::Neighbor((on, ip)),
-        Name::Row(Key::Route(vrf, prefix)) => Part::Route((vrf, prefix)),
-        Name::Row(Key::Other(text)) => Part::Other(Name::Row(Key::Other(text))),
-        Name::Row(key) => Part::Row(key),
+        Name::Row(key) => part_of_row(key),
         Name::Group(hops) => Part::Group(hops),
         other => Part::Other(other),
+    }
+}
+
+/// The part of a row's name, by its key.
+#[inline(always)]
+fn part_of_row(key: Key) -> Part<Key, Name, Hops>
+    ensures { IsPart result (Name.Row key) }
+{
+    match key {
+        Key::Neigh(on, ip) => Part::Neighbor((on, ip)),
+        Key::Route(vrf, prefix) => Part::Route(Destination { vrf, prefix }),
+        Key::Other(text) => Part::Other(Name::Row(Key::Other(text))),
+        key => Part::Row(key),
     }
 }

@@ -10,11 +10,12 @@ ghost use Rattle.late_maps.specs.Segments.{renamed};
 ghost use Rattle.ref_counts.specs.Registered.{IsReadable, first_of};
 
 use crate::copying::copied;
+use crate::destination::Destination;
 use crate::pin::{Pin, is_pinned_for};
 use late_maps::LateMap;
 use std::alloc::Global;
 use std::marker::Model;
-use swss_types::{OutOfMemory, Prefix, Vrf};
+use swss_types::OutOfMemory;
 use table_schema::Key;
 
 /// Keys, each with whether it is a user whatever pins there are: the others are users where no pin is for them. Most
@@ -22,7 +23,7 @@ use table_schema::Key;
 #[derive(Drop)]
 pub struct Places {
     rows: LateMap<Key, bool>,
-    routes: LateMap<(Vrf, Prefix), bool>,
+    routes: LateMap<Destination, bool>,
 }
 
 impl Model for Places {
@@ -53,7 +54,13 @@ impl Places {
         ensures { result ≡ lookup (is_at (key_cmp key.now)) self.now }
     {
         match key {
-            Key::Route(vrf, prefix) => self.routes.get(&(*vrf, *prefix)).copied(),
+            Key::Route(vrf, prefix) => self
+                .routes
+                .get(&Destination {
+                    vrf: *vrf,
+                    prefix: *prefix,
+                })
+                .copied(),
             _ => self.rows.get(key).copied(),
         }
     }
@@ -66,7 +73,7 @@ impl Places {
         ensures err { OnErr result (self.new ≡ self.old) }
     {
         match key {
-            Key::Route(vrf, prefix) => Ok(self.routes.insert((vrf, prefix), uses)?),
+            Key::Route(vrf, prefix) => Ok(self.routes.insert(Destination { vrf, prefix }, uses)?),
             _ => Ok(self.rows.insert(key, uses)?),
         }
     }
@@ -77,7 +84,10 @@ impl Places {
     {
         match key {
             Key::Route(vrf, prefix) => {
-                if let Some(place) = self.routes.get_mut(&(*vrf, *prefix)) {
+                if let Some(place) = self.routes.get_mut(&Destination {
+                    vrf: *vrf,
+                    prefix: *prefix,
+                }) {
                     *place = uses;
                 }
             }
@@ -95,7 +105,10 @@ impl Places {
     {
         match key {
             Key::Route(vrf, prefix) => {
-                self.routes.remove(&(*vrf, *prefix));
+                self.routes.remove(&Destination {
+                    vrf: *vrf,
+                    prefix: *prefix,
+                });
             }
             _ => {
                 self.rows.remove(key);
@@ -136,12 +149,12 @@ fn least_row<'a>(rows: &'a LateMap<Key, bool>, pins: &[Pin]) -> Option<&'a Key>
 }
 
 /// The least user of the routes.
-fn least_route(routes: &LateMap<(Vrf, Prefix), bool>, pins: &[Pin]) -> Option<Key>
+fn least_route(routes: &LateMap<Destination, bool>, pins: &[Pin]) -> Option<Key>
     ensures { result ≡ first_of (users_in (renamed route_key routes.now) pins.now) }
 {
-    for ((vrf, prefix), uses) in routes.iter() {
-        if *uses || !is_pinned_for(pins, &Key::Route(*vrf, *prefix)) {
-            return Some(Key::Route(*vrf, *prefix));
+    for (route, uses) in routes.iter() {
+        if *uses || !is_pinned_for(pins, &Key::Route(route.vrf, route.prefix)) {
+            return Some(Key::Route(route.vrf, route.prefix));
         }
     }
     None

@@ -83,6 +83,15 @@ impl Registration {
         self.places = 0;
     }
 
+    /// It is there again, with these identifiers in place of those that it had: as many.
+    pub fn come_back(&mut self, ids: &[Vid])
+        requires { length ids.now ≡ length self.old.ids }
+        ensures { self.new ≡ made_live ids.now self.old }
+    {
+        self.places = ids.len() as u64;
+        self.make_live(ids);
+    }
+
     /// All of it is there, with no identifier, where a worker builds it. Else it stays as it is.
     pub fn finish(&mut self)
         ensures { self.new ≡ finished_by self.old.state self.old }
@@ -153,6 +162,19 @@ impl Registration {
         self.claims.release(worker, used);
     }
 
+    /// Why a worker may not take it away: the least key that uses it, or else the least other worker that pins it.
+    pub fn refusal(&self, worker: u32) -> Option<Wait>
+        ensures { result ≡ retire_refusal worker self.now }
+    {
+        if let Some(user) = self.claims.least_user() {
+            return Some(Wait::Held(user));
+        }
+        match self.claims.least_other(worker) {
+            Some(other) => Some(Wait::Busy(other)),
+            None => None,
+        }
+    }
+
     /// A worker begins to take it away, unless a key uses it or another worker pins it.
     pub fn retire(&mut self, worker: u32) -> Result<(), Wait>
         ensures free { OnOk result (retire_refusal worker self.old ≡ None) }
@@ -160,11 +182,8 @@ impl Registration {
         ensures refusal { IfErr result (λ wait. retire_refusal worker self.old ≡ Some wait) }
         ensures err { OnErr result (self.new ≡ self.old) }
     {
-        if let Some(user) = self.claims.least_user() {
-            return Err(Wait::Held(user));
-        }
-        if let Some(other) = self.claims.least_other(worker) {
-            return Err(Wait::Busy(other));
+        if let Some(wait) = self.refusal(worker) {
+            return Err(wait);
         }
         self.state = NameState::Retiring(worker);
         self.places = 0;

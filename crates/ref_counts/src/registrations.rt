@@ -10,6 +10,7 @@ ghost use Rattle.ref_counts.specs.Parted.{IsAmongRows, IsAmongOthers, neighbor_n
 ghost use Rattle.ref_counts.specs.Registry.{registered_at, registered_name_cmp};
 
 use crate::Name;
+use crate::destination::Destination;
 use crate::near_in_tables::NearInTables;
 use crate::part::{Part, into_part, part_of};
 use crate::registration::Registration;
@@ -18,7 +19,7 @@ use sai_types::Hops;
 use std::alloc::Global;
 use std::marker::Model;
 use std::mem::drop;
-use swss_types::{IfName, Ip, OutOfMemory, Prefix, Vrf};
+use swss_types::{IfName, Ip, OutOfMemory};
 use table_schema::Key;
 
 /// What is known of the names that are not absent, in order. Most names are routes, neighbours and groups: each kind
@@ -27,7 +28,7 @@ use table_schema::Key;
 pub struct Registrations {
     rows: LateMap<Key, Registration, NearInTables>,
     neighbors: LateMap<(IfName, Ip), Registration>,
-    routes: LateMap<(Vrf, Prefix), Registration>,
+    routes: LateMap<Destination, Registration>,
     others: LateMap<Name, Registration>,
     groups: LateMap<Hops, Registration>,
 }
@@ -77,7 +78,10 @@ impl Registrations {
     {
         match key {
             Key::Neigh(on, ip) => self.neighbors.get(&(*on, *ip)),
-            Key::Route(vrf, prefix) => self.routes.get(&(*vrf, *prefix)),
+            Key::Route(vrf, prefix) => self.routes.get(&Destination {
+                vrf: *vrf,
+                prefix: *prefix,
+            }),
             Key::Other(_) => get_unread(&self.others, key),
             _ => self.rows.get(key),
         }
@@ -118,7 +122,7 @@ impl Registrations {
     }
 
     /// What is known of a route, to be changed.
-    fn route_mut(&mut self, route: &(Vrf, Prefix)) -> Option<&mut Registration>
+    fn route_mut(&mut self, route: &Destination) -> Option<&mut Registration>
         ensures* writes_back { sem 𝓛 (lends_name self.entry (route_name route.now) result) }
         ensures value { option_copied_mut result ≡ registered_at self.old (route_name route.now) }
     {

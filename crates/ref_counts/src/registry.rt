@@ -239,6 +239,23 @@ impl Registry {
         changes::retire(&mut self.names, name, worker)
     }
 
+    /// Why a worker may not take a name away: the least key that uses it, or else the least other worker that pins it.
+    pub fn refusal(&self, worker: u32, name: &Name) -> Option<Wait>
+        ensures { result ≡ retire_refusal_at self.now worker name.now }
+    {
+        changes::refusal(&self.names, name, worker)
+    }
+
+    /// Brings back a name that the worker retires: it is live again, with these identifiers in place of those that it had,
+    /// as many.
+    pub fn back(&mut self, worker: u32, name: &Name, vids: &[Vid])
+        requires retires { state_of self.old name.now ≡ NameState.Retiring worker }
+        requires many { length vids.now ≡ length (ids_of self.old name.now) }
+        ensures { self.new ≡ changed self.old name.now (made_live vids.now) }
+    {
+        changes::bring_back(&mut self.names, name, vids);
+    }
+
     /// Ends the retirement of a name: it is absent.
     pub fn gone(&mut self, name: &Name)
         ensures { self.new ≡ gone_from self.old name.now }

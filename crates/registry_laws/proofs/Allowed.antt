@@ -1,5 +1,5 @@
 -- when an operation may start
-use Rattle.std.proofs.Common.{◌≡◌, ◌∷◌, ◌<◌, ◌∙◌, inl, inr, ℕ, ◌==◌, Bool, true, false, not, cond, List, [], Option, None, Some, refl, sym, ap, subst}
+use Rattle.std.proofs.Common.{◌≡◌, ◌∷◌, ◌<◌, ◌∙◌, inl, inr, ℕ, ◌==◌, Bool, true, false, not, cond, List, [], Option, None, Some, refl, sym, ap, subst, option_map}
 use Rattle.std.specs.declared.cmp.Ordering.{Ordering}
 use Rattle.std.specs.declared.cmp.Ordering.TheVariants.{Less, Equal, Greater}
 use Rattle.std.specs.List.{AllByRecursion}
@@ -7,18 +7,17 @@ use Rattle.std.proofs.lemmas.Bool.{eqb-true}
 use Rattle.std.proofs.lemmas.Cmp.{tied_itself}
 use Rattle.swss_types.proofs.Proper.{mapped}
 use Rattle.table_schema.specs.Fields.{HasRisingKeys}
-use Rattle.table_schema.specs.Names.{names_of}
 use Rattle.table_schema.specs.Plan.{IsPlan, Ports}
 use Rattle.table_schema.specs.declared.key.Key.{Key}
-use Rattle.table_schema.specs.declared.row.Row.{Row}
 use Rattle.table_schema.proofs.Places.{find_step}
 use Rattle.sai_types.specs.Alike.{IsIn}
 use Rattle.switch_model.specs.Desired.{have_rows}
 use Rattle.switch_model.proofs.Ready.{have_rows-from_missing}
+use Rattle.switch_model.specs.Placed.{Placed as Row, bare, bare_rows, router_in}
 use Rattle.row_layout.specs.Operations.{uses_of}
 use Rattle.row_layout.specs.Rows as owner
 use Rattle.row_layout.specs.Rows.{Owner}
-use Rattle.switch_machine.specs.Events.{IsSafe, SwitchState}
+use Rattle.switch_machine.specs.Events.{IsSafe, SwitchState, placed_good}
 use Rattle.switch_machine.specs.Flights.{Fits, IsResting, IsShared, Machine}
 use Rattle.switch_machine.specs.Written.{good_of}
 use Rattle.switch_machine.proofs.Splits.{use_row_in}
@@ -32,7 +31,7 @@ use Rattle.ref_counts.specs.Registered.{IsReadable, Registered, pins_but}
 use Rattle.ref_counts.specs.Registry.{Names, registered_name_cmp, registered_at, state_in, state_of}
 use Rattle.ref_counts.specs.Room.{RoomState}
 use Rattle.ref_counts.proofs.Changing.{name_total}
-use Rattle.orch_flight.specs.Needing.{name_for}
+use Rattle.orch_flight.specs.Needing.{name_for, row_names}
 use Rattle.orch_flight.specs.Sharing.{HasNoPins, IsOfShared, MayShare, MayStart}
 use Rattle.registry_laws.specs.Flown.{Flown}
 use Rattle.registry_laws.specs.Flying.{KnowsBoard}
@@ -40,6 +39,7 @@ use Rattle.registry_laws.specs.Known.{IsPinOf, RowStands, SharedStands, pins_at}
 use Rattle.registry_laws.proofs.Finding.{none_below}
 use Rattle.registry_laws.proofs.Listing.{not_some}
 use Rattle.registry_laws.proofs.Telling.{row_at, shared_at, unapplied_is}
+use Rattle.registry_laws.proofs.Inside.{placed_none}
 
 -- ---- each entry is found under its name
 
@@ -127,16 +127,16 @@ module _ (plan : Ports) (is : IsPlan plan) (capacities : List ℕ) (s : SwitchSt
       by state.Live x = refl
       by (state.Retiring v) x = absurd (kept.sound.board.unused v x.0 k o x.1 x.3 (inr (rests, h)))
 
-  pub may_start : w < 4 → IsReadable k → (m.board.applied k ≡ good_of plan s.written k → ⊥) → ((r : Row) → good_of plan s.written k ≡ Some r → have_rows m.board.applied (names_of k r) ≡ true → Fits plan k r) → MayStart plan names w k (m.board.applied k) (good_of plan s.written k)
+  pub may_start : w < 4 → IsReadable k → (option_map bare (m.board.applied k) ≡ good_of plan s.written k → ⊥) → ((r : Row) → placed_good plan m.board s.written k ≡ Some r → have_rows (bare_rows m.board.applied) (row_names k r) ≡ true → Fits plan k r) → MayStart plan names w k (m.board.applied k) (placed_good plan m.board s.written k)
   may_start less readable differs fits = record {
     below = less;
     readable = readable;
     unpinned = unpinned;
     absent = absent;
     applied = live;
-    some = λ old new. differs (old ∙ sym new);
+    some = λ old new. differs (ap (option_map bare) old ∙ sym (placed_none (router_in (bare_rows m.board.applied) k) (good_of plan s.written k) new));
     old_fits = λ r at. kept.sound.board.fit k r (inl at);
-    new_fits = λ r good h. fits r good (have_rows-from_missing m.board.applied (names_of k r) (sym (unapplied_is plan is 4 capacities m kept.sound names room board.registers board.busy (names_of k r)) ∙ h));
-    shares = λ o h. let r = use_row_in plan k (good_of plan s.written k) o h in shares o (are_shared_by plan is k r.0 o r.2);
+    new_fits = λ r good h. fits r good (have_rows-from_missing (bare_rows m.board.applied) (row_names k r) (sym (unapplied_is plan is 4 capacities m kept.sound names room board.registers board.busy (row_names k r)) ∙ h));
+    shares = λ o h. let r = use_row_in plan k (placed_good plan m.board s.written k) o h in shares o (are_shared_by plan is k r.0 o r.2);
     shared = shared_live;
   }

@@ -1,14 +1,14 @@
 -- what other workers have under way stays as it was
-use Rattle.std.proofs.Common.{◌≡◌, ◌⊎◌, ◌++◌, ◌∙◌, inl, inr, ℕ, ◌==◌, Bool, true, false, List, Option, None, Some, if◌then◌else◌, refl, sym, ap, subst}
+use Rattle.std.proofs.Common.{◌≡◌, ◌⊎◌, ◌++◌, ◌∙◌, inl, inr, ℕ, ◌==◌, Bool, true, false, List, Option, None, Some, if◌then◌else◌, refl, sym, ap, subst, ◌-◌, ap₂, []}
 use Rattle.std.proofs.lemmas.Bool.{eq-eqb, eqb-true}
 use Rattle.std.proofs.lemmas.Option.{same_Some}
 use Rattle.table_schema.specs.Plan.{IsPlan, Ports}
-use Rattle.table_schema.specs.declared.row.Row.{Row}
 use Rattle.sai_types.specs.declared.weight.WHop.{WHop}
 use Rattle.sai_types.specs.declared.ids.Rid.{Rid}
 use Rattle.sai_types.specs.declared.thing.Thing.{Thing}
 use Rattle.sai_types.specs.Alike.{IsIn}
 use Rattle.sai_types.specs.Names.{name_of}
+use Rattle.switch_model.specs.Placed.{Placed as Row}
 use Rattle.row_layout.specs.Operations.{Change, uses_of}
 use Rattle.row_layout.specs.Rows as owner
 use Rattle.row_layout.specs.Rows.{Owner}
@@ -20,6 +20,7 @@ use Rattle.switch_machine.proofs.Moving.{its}
 use Rattle.switch_machine.proofs.Running.{one_owner, row_keys, shared_row, stays}
 use Rattle.switch_machine.proofs.Splits.{IsPut, New, Old, own_row_in, put_by, put_off, row_off, use_row_in}
 use Rattle.switch_machine.proofs.Tabled.{are_shared_by, tabled}
+use Rattle.switch_machine.specs.Places.{makes}
 use Rattle.ref_counts.specs.declared.name.Name.TheVariants as name
 use Rattle.ref_counts.specs.declared.name.NameState.{NameState}
 use Rattle.ref_counts.specs.declared.name.NameState.TheVariants as state
@@ -103,6 +104,7 @@ module _ (plan : Ports) (is : IsPlan plan) (m : Machine) (sound : IsConsistent p
 pub record IsAside (plan : Ports) (w : ℕ) (m t : Machine) : Type 0 where
   pub flights : (v : ℕ) → (v ≡ w → ⊥) → t.board.flights v ≡ m.board.flights v
   pub due : (v : ℕ) → (v ≡ w → ⊥) → t.due v ≡ m.due v
+  pub reserved : (v : ℕ) → (v ≡ w → ⊥) → t.reserved v ≡ m.reserved v
   pub applied : (v : ℕ) (g : MachineFlight) → (v ≡ w → ⊥) → m.board.flights v ≡ Some g → t.board.applied g.key ≡ m.board.applied g.key
   pub stands : (v : ℕ) (g : MachineFlight) (u : Thing) → (v ≡ w → ⊥) → m.board.flights v ≡ Some g → IsOwnedBy plan (name_of u) (owner.OfRow g.key) → StandsIn m u → StandsIn t u
 
@@ -110,6 +112,7 @@ pub aside_then : (plan : Ports) (w : ℕ) (m t s : Machine) → IsAside plan w m
 aside_then plan w m t s x y = record {
   flights = λ v apart. y.flights v apart ∙ x.flights v apart;
   due = λ v apart. y.due v apart ∙ x.due v apart;
+  reserved = λ v apart. y.reserved v apart ∙ x.reserved v apart;
   applied = λ v g apart at. y.applied v g apart (x.flights v apart ∙ at) ∙ x.applied v g apart at;
   stands = λ v g u apart at its h. y.stands v g u apart (x.flights v apart ∙ at) its (x.stands v g u apart at its h);
 }
@@ -118,6 +121,7 @@ pub aside_started : (plan : Ports) (w : ℕ) (m : Machine) (f : MachineFlight) (
 aside_started plan w m f due = record {
   flights = λ v apart. put_off w v (Some f) m.board.flights apart;
   due = λ v apart. put_off w v due m.due apart;
+  reserved = λ v apart. put_off w v due m.reserved apart;
   applied = λ v g apart at. refl;
   stands = λ v g u apart at its h. h;
 }
@@ -126,6 +130,7 @@ pub aside_left : (plan : Ports) (w : ℕ) (m : Machine) (f : MachineFlight) (ret
 aside_left plan w m f retires due = record {
   flights = λ v apart. put_off w v (Some (parted f retires)) m.board.flights apart;
   due = λ v apart. put_off w v due m.due apart;
+  reserved = λ v apart. refl;
   applied = λ v g apart at. refl;
   stands = λ v g u apart at its h. h;
 }
@@ -138,6 +143,7 @@ module _ (plan : Ports) (is : IsPlan plan) (m : Machine) (sound : IsConsistent p
   aside_finished there = record {
     flights = λ v apart. put_off w v None m.board.flights apart;
     due = λ v apart. refl;
+    reserved = λ v apart. put_off w v [] m.reserved apart;
     applied = λ v g apart at. row_off f.key g.key f.new m.board.applied (other_key v g apart at there);
     stands = λ v g u apart at its h. h;
   }
@@ -146,6 +152,7 @@ module _ (plan : Ports) (is : IsPlan plan) (m : Machine) (sound : IsConsistent p
   aside_moved c cs stands moves = record {
     flights = λ v apart. refl;
     due = λ v apart. put_off w v cs m.due apart;
+    reserved = λ v apart. refl;
     applied = λ v g apart at. refl;
     stands = λ v g u apart at own h. moves.back u (stays c (StandsIn m u) u (other v g u apart at own) h);
   }
@@ -195,6 +202,8 @@ module _ (plan : Ports) (is : IsPlan plan) (capacities : List ℕ) (names : regi
     standing = λ u c i j e. aside.stands v (flight_of x.operation) u apart y.flying (now_owned plan is x.operation y.over.now u i) (y.standing u c i j e);
     later = λ hops h. y.later hops (same ∙ h);
     group = λ g h. of g (y.group g h);
+    beyond = λ q. ap₂ (λ a b. makes q a - makes q b) (aside.due v apart) (aside.reserved v apart) ∙ y.beyond q;
+    reserves = λ r e goes q. ap (makes q) (aside.reserved v apart) ∙ y.reserves r e goes q;
   }
     where
       same : group_to_build plan names x.operation ≡ group_to_build plan names' x.operation

@@ -1,20 +1,19 @@
 -- the machine when an operation has started
-use Rattle.std.proofs.Common.{◌≡◌, ◌⊎◌, ◌∷◌, ◌∙◌, inl, inr, ℕ, true, List, [], None, Some, refl, sym, ap, ap₂, subst}
+use Rattle.std.proofs.Common.{◌≡◌, ◌⊎◌, ◌∷◌, ◌∙◌, inl, inr, ℕ, true, false, List, [], None, Some, refl, sym, ap, ap₂, subst}
 use Rattle.std.proofs.lemmas.Bool.{false≢true}
 use Rattle.std.proofs.lemmas.Option.{same_Some}
-use Rattle.table_schema.specs.Names.{names_of}
 use Rattle.table_schema.specs.Plan.{IsPlan, Ports}
 use Rattle.table_schema.specs.declared.key.Key.{Key}
-use Rattle.table_schema.specs.declared.row.Row.{Row}
 use Rattle.sai_types.specs.declared.thing.Thing.{Thing}
 use Rattle.sai_types.specs.Alike.{IsIn}
 use Rattle.sai_types.specs.Names.{name_of}
+use Rattle.switch_model.specs.Placed.{Placed as Row}
 use Rattle.row_layout.specs.Operations.{Change, Make, Set, Take, uses_of}
 use Rattle.row_layout.specs.Rows.{Owner, OfRow}
 use Rattle.row_layout.specs.Shared.{shared_things}
 use Rattle.switch_machine.specs.Changes.{after, changed_name}
 use Rattle.switch_machine.specs.Consistent.{IsConsistent}
-use Rattle.switch_machine.specs.Flights.{MachineBoard, Can, Concerns, CountsAsUser, Fits, MachineFlight, Goes, HasChangeOf, IsFirm, IsOwnedBy, IsResting, IsShared, IsUser, Machine, Runs, StandsIn, goes_over}
+use Rattle.switch_machine.specs.Flights.{MachineBoard, Can, Concerns, CountsAsUser, Fits, MachineFlight, Goes, HasChangeOf, IsFirm, IsOwnedBy, IsResting, IsShared, IsUser, Machine, Runs, StandsIn}
 use Rattle.switch_machine.specs.Operations.{MayBegin}
 use Rattle.switch_machine.specs.Steps.{Starts, started}
 use Rattle.switch_machine.specs.Tables.{TableLaws}
@@ -25,6 +24,7 @@ use Rattle.switch_machine.proofs.Tabled.{tabled}
 use Rattle.ref_counts.specs.declared.name.NameState.{NameState}
 use Rattle.ref_counts.specs.declared.name.NameState.TheVariants as state
 use Rattle.ref_counts.specs.declared.pin.Pin.{Pin}
+use Rattle.orch_flight.specs.Needing.{row_names}
 use Rattle.registry_laws.specs.Known.{IsPinOf, RowStands, SharedStands}
 use Rattle.registry_laws.proofs.Listing.{not_some}
 
@@ -102,33 +102,33 @@ module _ (plan : Ports) (is : IsPlan plan) (m : Machine) (sound : IsConsistent p
   row_stands p state.Live other (inr made) = inr (record { worker = made.worker; flight = made.flight; flying = still made.worker made.flight made.flying; key = made.key; row = made.row; new = made.new; done = due_old made.worker (apart made.worker made.flight made.flying) ∙ made.done })
   row_stands p (state.Retiring v) other x = record { flight = x.flight; flying = still v x.flight x.flying; key = x.key; goes = x.goes; row = x.row; applied = x.applied }
 
-  -- the key's own name while another row is to take its row's place
-  pub own_stays : (a r : Row) (st : NameState) → b.applied f.key ≡ Some a → f.new ≡ Some r → RowStands m f.key st → RowStands later f.key st
-  own_stays a r state.Absent old new (rests, none) = not_some a (sym none ∙ old)
-  own_stays a r (state.Building v) old new (flown, none) = not_some a (sym none ∙ old)
-  own_stays a r state.Live old new (inl firm) = inl (firm_now f.key firm (λ _ goes. false≢true (sym (begins.goes ∙ ap (goes_over f.key (b.applied f.key)) new) ∙ goes)))
-  own_stays a r state.Live old new (inr made) = absurd (begins.rests made.worker made.flight made.flying made.key)
-  own_stays a r (state.Retiring v) old new x = absurd (begins.rests v x.flight x.flying x.key)
+  -- the key's own name while its applied row does not go
+  pub own_stays : (a : Row) (st : NameState) → b.applied f.key ≡ Some a → f.goes ≡ false → RowStands m f.key st → RowStands later f.key st
+  own_stays a state.Absent old stays (rests, none) = not_some a (sym none ∙ old)
+  own_stays a (state.Building v) old stays (flown, none) = not_some a (sym none ∙ old)
+  own_stays a state.Live old stays (inl firm) = inl (firm_now f.key firm (λ _ goes. false≢true (sym stays ∙ goes)))
+  own_stays a state.Live old stays (inr made) = absurd (begins.rests made.worker made.flight made.flying made.key)
+  own_stays a (state.Retiring v) old stays x = absurd (begins.rests v x.flight x.flying x.key)
 
   -- ---- pins
 
-  pub pin_was : (p : Key) (q : Pin) → IsPinOf b' p q → IsPinOf b p q ⊎ ((q ≡ record { worker = w; user = f.key }) × ((r : Row) × (f.new ≡ Some r) × IsIn p (names_of f.key r)))
+  pub pin_was : (p : Key) (q : Pin) → IsPinOf b' p q → IsPinOf b p q ⊎ ((q ≡ record { worker = w; user = f.key }) × ((r : Row) × (f.new ≡ Some r) × IsIn p (row_names f.key r)))
   pin_was p q (g, at, same, (r, new, h)) = of (by q.worker g at)
     where
       pin : ℕ → Key → Pin
       pin v k = record { worker = v; user = k }
 
-      of : IsPut w q.worker (Some f) b.flights (Some g) → IsPinOf b p q ⊎ ((q ≡ record { worker = w; user = f.key }) × ((r : Row) × (f.new ≡ Some r) × IsIn p (names_of f.key r)))
+      of : IsPut w q.worker (Some f) b.flights (Some g) → IsPinOf b p q ⊎ ((q ≡ record { worker = w; user = f.key }) × ((r : Row) × (f.new ≡ Some r) × IsIn p (row_names f.key r)))
       of (New e one) =
           let x = same_Some f g one in
           let key = ap (λ (z : MachineFlight). z.key) x in
-          inr (ap₂ pin e (sym (key ∙ same)), (r, ap (λ (z : MachineFlight). z.new) x ∙ new, subst (λ z. IsIn p (names_of z r)) (sym key) h))
+          inr (ap₂ pin e (sym (key ∙ same)), (r, ap (λ (z : MachineFlight). z.new) x ∙ new, subst (λ z. IsIn p (row_names z r)) (sym key) h))
       of (Old off there) = inl (g, there, same, (r, new, h))
 
   pub pin_now : (p : Key) (q : Pin) → IsPinOf b p q → IsPinOf b' p q
   pin_now p q (g, at, same, brings) = (g, still q.worker g at, same, brings)
 
-  pub pin_new : (p : Key) (r : Row) → f.new ≡ Some r → IsIn p (names_of f.key r) → IsPinOf b' p (record { worker = w; user = f.key })
+  pub pin_new : (p : Key) (r : Row) → f.new ≡ Some r → IsIn p (row_names f.key r) → IsPinOf b' p (record { worker = w; user = f.key })
   pin_new p r new h = (f, here, refl, (r, new, h))
 
   -- ---- what is shared

@@ -1,13 +1,16 @@
 pub mod Empty
 pub mod Parts
 pub mod Begun
+pub mod Coming
 pub mod Resting
 pub mod Nexts
 pub mod Tied
 pub mod Due
+pub mod Counted
 pub mod Taken
 pub mod Ended
 pub mod Opened
+pub mod Ends
 pub mod Making
 pub mod RowAnswered
 pub mod GroupAnswered

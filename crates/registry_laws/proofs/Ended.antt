@@ -1,16 +1,14 @@
 -- the registry stands for the machine when an operation has ended
 use Rattle.std.proofs.Common.{◌≡◌, ◌⊎◌, ◌<◌, ◌∙◌, inl, inr, ℕ, true, List, [], Option, None, Some, option_map, refl, sym, ap, subst}
-use Rattle.std.proofs.lemmas.Bool.{false≢true}
 use Rattle.std.specs.List.Sorted.{IsStrictlySortedBy}
 use Rattle.std.proofs.lemmas.Option.{same_Some}
 use Rattle.table_schema.specs.Fields.{HasRisingKeys}
 use Rattle.table_schema.specs.Key.{key_cmp}
-use Rattle.table_schema.specs.Names.{names_of}
 use Rattle.table_schema.specs.Plan.{Ports}
 use Rattle.table_schema.specs.declared.key.Key.{Key}
-use Rattle.table_schema.specs.declared.row.Row.{Row}
 use Rattle.sai_types.specs.declared.kind.Kind.{Kind}
 use Rattle.sai_types.specs.Alike.{IsIn}
+use Rattle.switch_model.specs.Placed.{Placed as Row}
 use Rattle.row_layout.specs.Operations.{uses_of}
 use Rattle.row_layout.specs.Rows as owner
 use Rattle.row_layout.specs.Rows.{Owner}
@@ -20,17 +18,18 @@ use Rattle.switch_machine.specs.Places.{makes}
 use Rattle.switch_machine.specs.Steps.{Ends, finished}
 use Rattle.switch_machine.proofs.Running.{row_keys, shared_row}
 use Rattle.switch_machine.proofs.Splits.{IsPut, IsSplit, New, Old, key_split, nat_split, put_at, put_by, put_off, row_at, row_off}
+use Rattle.switch_machine.proofs.Placing.{names_in}
 use Rattle.ref_counts.specs.declared.name.Name.TheVariants as name
 use Rattle.ref_counts.specs.declared.name.NameState.{NameState}
 use Rattle.ref_counts.specs.declared.name.NameState.TheVariants as state
 use Rattle.ref_counts.specs.declared.pin.Pin.{Pin}
 use Rattle.ref_counts.specs.Registered.{Registered, made_live, pins_but, pins_of, released, with_users}
 use Rattle.ref_counts.specs.Registry as registry
-use Rattle.ref_counts.specs.Registry.{finished_in, registered_name_cmp, registered_at, state_in, state_of, users_at}
+use Rattle.ref_counts.specs.Registry.{registered_name_cmp, registered_at, state_in, state_of, users_at}
 use Rattle.ref_counts.specs.Room.{GivesBack, RoomState, places_by}
 use Rattle.ref_counts.proofs.Found.{found-released}
-use Rattle.orch_flight.specs.Needing.{name_for}
-use Rattle.registry_laws.specs.Ending.{ended_names, named_by, users_dropped, users_passed, with_own_ended}
+use Rattle.orch_flight.specs.Needing.{name_for, row_names}
+use Rattle.registry_laws.specs.Ending.{ended_names, named_by, users_dropped, users_passed, with_own_ended, come_to_be}
 use Rattle.registry_laws.specs.Known.{IsKnownRow, IsKnownShared, IsPinOf, NamesKey, RowStands, SharedStands, pins_at}
 use Rattle.registry_laws.specs.Registers.{Registers}
 use Rattle.registry_laws.proofs.Finding.{found_at, found_off, gone_at, gone_off}
@@ -55,15 +54,15 @@ released_state : (w : ℕ) (y : Option Registered) → state_in (option_map (rel
 released_state w None = refl
 released_state w (Some r) = refl
 
-own_ended_off : (names : registry.Names) (k : Key) (x : Option Row) (o : Owner) → (owner.OfRow k ≡ o → ⊥) → registered_at (with_own_ended names k x) (name_for o) ≡ registered_at names (name_for o)
+pub own_ended_off : (names : registry.Names) (k : Key) (x : Option Row) (o : Owner) → (owner.OfRow k ≡ o → ⊥) → registered_at (with_own_ended names k x) (name_for o) ≡ registered_at names (name_for o)
 own_ended_off names k None o apart = gone_off names (owner.OfRow k) o apart
 own_ended_off names k (Some r) o apart = by (state_of names (name.Row k))
   where
-    by : (st : NameState) → registered_at (finished_in st names (name.Row k)) (name_for o) ≡ registered_at names (name_for o)
+    by : (st : NameState) → registered_at (come_to_be st names (name.Row k)) (name_for o) ≡ registered_at names (name_for o)
     by state.Absent = refl
     by (state.Building v) = found_off names (owner.OfRow k) o (made_live []) apart
     by state.Live = refl
-    by (state.Retiring v) = refl
+    by (state.Retiring v) = found_off names (owner.OfRow k) o (made_live []) apart
 
 module _ (plan : Ports) (m : Machine) (sound : IsConsistent plan m) (w : ℕ) (f : MachineFlight) (ends : Ends m w f) where
   abbrev pub later : Machine
@@ -160,14 +159,14 @@ module _ (plan : Ports) (m : Machine) (sound : IsConsistent plan m) (w : ℕ) (f
 
   module _ (p : Key) (x y : Option Registered) (known : IsKnownRow m p x) (dropped : IsDropped f.key (IsIn p (named_by f.key (m.board.applied f.key))) x y) where
     was_named : (q : Key) → IsSplit f.key q → NamesKey m.board.applied q p → (f.key ≡ q → IsIn p (named_by f.key (m.board.applied f.key)) → ⊥) → NamesKey later.board.applied q p
-    was_named q (inl same) (r, at, i) none = absurd (none same (subst (λ z. IsIn p (named_by f.key z)) (sym (ap m.board.applied same ∙ at)) (subst (λ z. IsIn p (names_of z r)) (sym same) i)))
+    was_named q (inl same) (r, at, i) none = absurd (none same (subst (λ z. IsIn p (named_by f.key z)) (sym (ap m.board.applied same ∙ at)) (subst (λ z. IsIn p (row_names z r)) (sym same) i)))
     was_named q (inr apart) (r, at, i) none = (r, applied_off q apart ∙ at, i)
 
     by_pin : (q : Key) (v : Pin) → v.worker ≡ w → q ≡ v.user → IsPinOf m.board p v → NamesKey later.board.applied q p
     by_pin q v same user (g, at, key, (r, new, i)) =
         let one = its v.worker g at same in
         let is : f.key ≡ q = ap (λ (z : MachineFlight). z.key) one ∙ key ∙ sym user in
-        (r, applied_at q is ∙ ap (λ (z : MachineFlight). z.new) one ∙ new, subst (λ z. IsIn p (names_of z r)) (key ∙ sym user) i)
+        (r, applied_at q is ∙ ap (λ (z : MachineFlight). z.new) one ∙ new, subst (λ z. IsIn p (row_names z r)) (key ∙ sym user) i)
 
     into : (q : Key) → IsIn q (users_at y) ⊎ ((v : Pin) × IsIn v (pins_of w (pins_at y)) × (q ≡ v.user)) → NamesKey later.board.applied q p
     into q (inl h) = let d = dropped.into q h in was_named q (key_split f.key q) ((known.users q).0 d.0) d.1
@@ -176,7 +175,7 @@ module _ (plan : Ports) (m : Machine) (sound : IsConsistent plan m) (w : ℕ) (f
     back : (q : Key) → IsSplit f.key q → NamesKey later.board.applied q p → IsIn q (with_users (pins_of w (pins_at y)) (users_at y))
     back q (inl same) (r, at, i) =
         let pin : Pin = record { worker = w; user = f.key } in
-        let there : IsIn pin (pins_at x) = (known.pins pin).1 (f, ends.flying, refl, (r, sym (applied_at q same) ∙ at, subst (λ z. IsIn p (names_of z r)) (sym same) i)) in
+        let there : IsIn pin (pins_at x) = (known.pins pin).1 (f, ends.flying, refl, (r, sym (applied_at q same) ∙ at, subst (λ z. IsIn p (row_names z r)) (sym same) i)) in
         subst (λ z. IsIn z (with_users (pins_of w (pins_at y)) (users_at y))) same (with_new pin (pins_of w (pins_at y)) (users_at y) (pins_its w pin (pins_at y) refl (subst (IsIn pin) (sym dropped.pins) there)))
     back q (inr apart) (r, at, i) = with_kept q (pins_of w (pins_at y)) (users_at y) (dropped.kept q (λ e _. apart e) ((known.users q).1 (r, sym (applied_off q apart) ∙ at, i)))
 
@@ -258,24 +257,26 @@ module _ (plan : Ports) (m : Machine) (sound : IsConsistent plan m) (w : ℕ) (f
           rising = none_rising;
         })
       where
-        firm_of : (q : Key) (r : Row) → IsRow m.board q r → IsIn f.key (names_of q r) → IsFirm m.board f.key
-        firm_of q r row i = sound.board.named q f.key r row i
+        firm_of : (q : Key) (r : Row) → IsRow m.board q r → IsIn f.key (row_names q r) → IsFirm m.board f.key
+        firm_of q r row i = sound.board.named q f.key r row (names_in q r f.key i)
 
         nobody : (q : Key) → IsSplit f.key q → NamesKey later.board.applied q f.key → ⊥
         nobody q (inl same) (r, at, i) = not_some r (sym (applied_at q same ∙ new) ∙ at)
-        nobody q (inr apart) (r, at, i) = (sound.board.named q f.key r (inl (sym (applied_off q apart) ∙ at)) i).stays w f ends.flying refl (row_goes new)
+        nobody q (inr apart) (r, at, i) = (firm_of q r (inl (sym (applied_off q apart) ∙ at)) i).stays w f ends.flying refl (row_goes new)
     own_row (Some r) new = by (state_of passed (name.Row f.key)) refl (subst (RowStands m f.key) (sym (state_at f.key)) (known.names_known.rows f.key).stands)
       where
-        by : (st : NameState) → state_of passed (name.Row f.key) ≡ st → RowStands m f.key (state_of passed (name.Row f.key)) → IsKnownRow later f.key (registered_at (finished_in (state_of passed (name.Row f.key)) passed (name.Row f.key)) (name.Row f.key))
+        by : (st : NameState) → state_of passed (name.Row f.key) ≡ st → RowStands m f.key (state_of passed (name.Row f.key)) → IsKnownRow later f.key (registered_at (come_to_be (state_of passed (name.Row f.key)) passed (name.Row f.key)) (name.Row f.key))
         by state.Absent e stands = absurd ((subst (RowStands m f.key) e stands).0 w f ends.flying refl)
-        by (state.Building v) e stands = subst (IsKnownRow later f.key) (sym (ap (λ st. registered_at (finished_in st passed (name.Row f.key)) (name.Row f.key)) e ∙ found_at passed (owner.OfRow f.key) (made_live []))) (live_again (registered_at passed (name.Row f.key)) (users_at_row f.key) r new (λ a. absent_not (sym e ∙ a)))
+        by (state.Building v) e stands = subst (IsKnownRow later f.key) (sym (ap (λ st. registered_at (come_to_be st passed (name.Row f.key)) (name.Row f.key)) e ∙ found_at passed (owner.OfRow f.key) (made_live []))) (live_again (registered_at passed (name.Row f.key)) (users_at_row f.key) r new (λ a. absent_not (sym e ∙ a)))
           where
             absent_not : state.Building v ≡ state.Absent → ⊥
             absent_not h = cc
-        by state.Live e stands = subst (IsKnownRow later f.key) (sym (ap (λ st. registered_at (finished_in st passed (name.Row f.key)) (name.Row f.key)) e)) (with_stands f.key (registered_at passed (name.Row f.key)) (users_at_row f.key) (subst (RowStands later f.key) (sym e) (own_live r new)))
+        by state.Live e stands = subst (IsKnownRow later f.key) (sym (ap (λ st. registered_at (come_to_be st passed (name.Row f.key)) (name.Row f.key)) e)) (with_stands f.key (registered_at passed (name.Row f.key)) (users_at_row f.key) (subst (RowStands later f.key) (sym e) (own_live r new)))
         by (state.Retiring v) e stands =
-            let x = subst (RowStands m f.key) e stands in
-            absurd (false≢true (sym (sound.board.goes w f ends.flying ∙ ap (goes_over f.key (m.board.applied f.key)) new) ∙ ap (λ (z : MachineFlight). z.goes) (its v x.flight x.flying (sound.board.one v w x.flight f x.flying ends.flying x.key)) ∙ x.goes))
+            subst (IsKnownRow later f.key) (sym (ap (λ st. registered_at (come_to_be st passed (name.Row f.key)) (name.Row f.key)) e ∙ found_at passed (owner.OfRow f.key) (made_live []))) (live_again (registered_at passed (name.Row f.key)) (users_at_row f.key) r new (λ a. absent_not (sym e ∙ a)))
+          where
+            absent_not : state.Retiring v ≡ state.Absent → ⊥
+            absent_not h = cc
 
     row_known : (p : Key) → IsSplit f.key p → IsKnownRow later p (registered_at ended (name.Row p))
     row_known p (inl same) = subst (λ z. IsKnownRow later z (registered_at ended (name.Row z))) same (own_row f.new refl)

@@ -1,5 +1,5 @@
 -- what is known of an owner's name after a change of names
-use Rattle.std.proofs.Common.{◌≡◌, ◌⊎◌, ◌∷◌, ◌∙◌, inl, inr, ℕ, Bool, true, false, cond, List, [], Option, None, Some, option_map, refl, sym, ap, ap₂, subst}
+use Rattle.std.proofs.Common.{◌≡◌, ◌⊎◌, ◌∷◌, ◌∙◌, inl, inr, ℕ, Bool, true, false, cond, List, [], Option, None, Some, option_map, refl, sym, ap, ap₂, subst, if◌then◌else◌}
 use Rattle.std.specs.BTreeMap.{insert_entry, is_at}
 use Rattle.std.specs.Ordering.{is_eq}
 use Rattle.std.specs.declared.cmp.Ordering.{Ordering}
@@ -13,6 +13,7 @@ use Rattle.table_schema.proofs.Places.{out_step, put_step}
 use Rattle.sai_types.specs.Alike.{IsIn}
 use Rattle.sai_types.proofs.Rising.{hops_exact}
 use Rattle.sai_types.proofs.Membership.{in-either as in_both, in-left as in_left, in-right as in_right}
+use Rattle.switch_model.specs.Placed.{Placed as Row}
 use Rattle.row_layout.specs.Rows as owner
 use Rattle.row_layout.specs.Rows.{Owner}
 use Rattle.switch_machine.proofs.Running.{row_keys}
@@ -29,12 +30,11 @@ use Rattle.swss_types.proofs.Tied.{then_first, then_last, tied}
 use Rattle.table_schema.specs.Fields.{HasRisingKeys}
 use Rattle.ref_counts.proofs.Changing.{name_total}
 use Rattle.ref_counts.proofs.Found.{apart_from, found-changed, found-other, found-put}
-use Rattle.orch_flight.specs.Needing.{name_for}
+use Rattle.orch_flight.specs.Needing.{name_for, row_names}
 use Rattle.orch_flight.specs.Starting.{ids_for, ids_for_row, used_by, with_building, with_own, with_pins}
-use Rattle.table_schema.specs.Names.{names_of}
-use Rattle.table_schema.specs.declared.row.Row.{Row}
 use Rattle.swss_types.proofs.AddressOrders.{ip_exact}
 use Rattle.swss_types.proofs.Routers.{vrf_exact}
+use Rattle.switch_machine.specs.Flights.{goes_over}
 use Rattle.registry_laws.specs.Known.{pins_at}
 use Rattle.registry_laws.proofs.Listing.{never_none, not_some}
 
@@ -186,20 +186,23 @@ module _ (w : ℕ) (k : Key) where
 
   pub own_off : (names : Names) (x y : Option Row) (o : Owner) → (owner.OfRow k ≡ o → ⊥) → registered_at (with_own names w k x y) (name_for o) ≡ registered_at names (name_for o)
   own_off names None y o apart = put_off_name names (owner.OfRow k) o (begun w (ids_for_row k)) apart
-  own_off names (Some a) None o apart = found_off names (owner.OfRow k) o (begun_to_go w) apart
-  own_off names (Some a) (Some r) o apart = refl
+  own_off names (Some a) y o apart = by (goes_over k (Some a) y)
+    where
+      by : (b : Bool) → registered_at (if b then changed names (name.Row k) (begun_to_go w) else names) (name_for o) ≡ registered_at names (name_for o)
+      by true = found_off names (owner.OfRow k) o (begun_to_go w) apart
+      by false = refl
 
-  pub pins_off : (names : Names) (x : Option Row) (o : Owner) → ((r : Row) (q : Key) → x ≡ Some r → IsIn q (names_of k r) → owner.OfRow q ≡ o → ⊥) → registered_at (with_pins names w k x) (name_for o) ≡ registered_at names (name_for o)
+  pub pins_off : (names : Names) (x : Option Row) (o : Owner) → ((r : Row) (q : Key) → x ≡ Some r → IsIn q (row_names k r) → owner.OfRow q ≡ o → ⊥) → registered_at (with_pins names w k x) (name_for o) ≡ registered_at names (name_for o)
   pins_off names None o apart = refl
-  pins_off names (Some r) o apart = pinned_off w k names (names_of k r) o (λ q h. apart r q refl h)
+  pins_off names (Some r) o apart = pinned_off w k names (row_names k r) o (λ q h. apart r q refl h)
 
   -- the new row names a key
   abbrev pub NamesNew : Option Row → Key → Type 0
-  NamesNew x p = (r : Row) × (x ≡ Some r) × IsIn p (names_of k r)
+  NamesNew x p = (r : Row) × (x ≡ Some r) × IsIn p (row_names k r)
 
   pub pins_row : (names : Names) (x : Option Row) (p : Key) → IsPinned w k (NamesNew x p) (registered_at names (name.Row p)) (registered_at (with_pins names w k x) (name.Row p))
   pins_row names None p = not_pinned w k (NamesNew None p) (registered_at names (name.Row p)) (λ h. not_some h.0 h.1)
-  pins_row names (Some r) p = pinned-as w k (IsIn p (names_of k r)) (NamesNew (Some r) p) (registered_at names (name.Row p)) (registered_at (pinned names w k (names_of k r)) (name.Row p)) (λ h. (r, refl, h)) (λ h. subst (λ z. IsIn p (names_of k z)) (sym (same_Some r h.0 h.1)) h.2) (pinned_row w k names (names_of k r) p)
+  pins_row names (Some r) p = pinned-as w k (IsIn p (row_names k r)) (NamesNew (Some r) p) (registered_at names (name.Row p)) (registered_at (pinned names w k (row_names k r)) (name.Row p)) (λ h. (r, refl, h)) (λ h. subst (λ z. IsIn p (row_names k z)) (sym (same_Some r h.0 h.1)) h.2) (pinned_row w k names (row_names k r) p)
 
 -- ---- a name that is gone
 

@@ -5,32 +5,32 @@ use Rattle.table_schema.specs.Fields.{HasRisingKeys}
 use Rattle.table_schema.specs.declared.key.Key.{Key}
 use Rattle.table_schema.specs.declared.key.Key.TheVariants as key
 use Rattle.std.specs.Map.{remove_entry}
-use Rattle.table_schema.specs.declared.row.Row.{Row}
 use Rattle.table_schema.proofs.Places.{HasRisingKeys-insert_entry}
 use Rattle.table_schema.proofs.RowLists.{HasRisingKeys-remove_entry}
-use Rattle.table_schema.specs.Names.{names_of}
 use Rattle.table_schema.specs.Plan.{Ports}
 use Rattle.sai_types.specs.declared.ids.Vid.{Vid}
 use Rattle.sai_types.specs.declared.thing.Thing.{Thing}
 use Rattle.sai_types.specs.declared.thing.Thing.TheVariants as thing
 use Rattle.sai_types.specs.Names as thing_name
 use Rattle.switch_model.specs.declared.wait.Wait.{Wait}
+use Rattle.switch_model.specs.Placed.{Placed as Row}
 use Rattle.row_layout.specs.Operations.{Change, Make, Set, Take, uses_of}
 use Rattle.row_layout.specs.Rows as owner
 use Rattle.row_layout.specs.Rows.{Owner}
 use Rattle.switch_machine.proofs.Splits.{IsSplit, owner_split}
+use Rattle.switch_machine.specs.Flights.{goes_over}
 use Rattle.ref_counts.specs.declared.name.Name.TheVariants as name
 use Rattle.ref_counts.specs.declared.name.NameState.{NameState}
 use Rattle.ref_counts.specs.declared.name.NameState.TheVariants as state
 use Rattle.ref_counts.specs.Registered.{Registered, begun, begun_to_go, made_live, released, with_pin, with_user, without_user}
-use Rattle.ref_counts.specs.Registry.{Names, all_released, changed, finished_in, gone_from, is_retiring, registered_name_cmp, pinned, places_in, retire_refusal_at, registered_at, state_in, state_of}
+use Rattle.ref_counts.specs.Registry.{Names, all_released, changed, gone_from, is_retiring, registered_name_cmp, pinned, places_in, retire_refusal_at, registered_at, state_in, state_of}
 use Rattle.ref_counts.proofs.Changing.{name_total}
 use Rattle.ref_counts.proofs.Found.{found-released}
 use Rattle.orch_flight.specs.Grouping.{GroupOperation, group_names_by}
-use Rattle.orch_flight.specs.Needing.{name_for, to_build}
+use Rattle.orch_flight.specs.Needing.{name_for, row_names, to_build}
 use Rattle.orch_flight.specs.Starting.{begun_names, ids_for, ids_for_row, left_names, parted_by, used_by, with_building, with_own, with_pins}
 use Rattle.orch_flight.specs.Taking.{names_after_made, names_after, taken_names, to_list}
-use Rattle.registry_laws.specs.Ending.{ended_names, named_by, users_dropped, users_passed, with_own_ended}
+use Rattle.registry_laws.specs.Ending.{ended_names, named_by, users_dropped, users_passed, with_own_ended, come_to_be}
 use Rattle.registry_laws.specs.Flying.{HavePlacesForIdentifiers, AreThere}
 use Rattle.registry_laws.proofs.Finding.{found_at, found_off, gone_off, out_at, put_at_name, put_off_name}
 use Rattle.registry_laws.proofs.Passing.{changed_rising, released_rising}
@@ -127,12 +127,15 @@ used_fine k (o ∷ os) names are = used_fine k os (changed names (name_for o) (w
 
 pins_fine : (w : ℕ) (k : Key) (new : Option Row) (names : Names) → AreFine names → AreFine (with_pins names w k new)
 pins_fine w k None names are = are
-pins_fine w k (Some r) names are = pinned_fine w k (names_of k r) names are
+pins_fine w k (Some r) names are = pinned_fine w k (row_names k r) names are
 
 own_fine : (w : ℕ) (k : Key) (old new : Option Row) (names : Names) → AreFine names → AreFine (with_own names w k old new)
 own_fine w k None new names are = put_fine (owner.OfRow k) (begun w (ids_for_row k)) (is_begun (owner.OfRow k) w) names are
-own_fine w k (Some a) None names are = changed_fine (owner.OfRow k) (begun_to_go w) (is_going (owner.OfRow k) w) names are
-own_fine w k (Some a) (Some r) names are = are
+own_fine w k (Some a) new names are = by (goes_over k (Some a) new)
+  where
+    by : (b : Bool) → AreFine (if b then changed names (name.Row k) (begun_to_go w) else names)
+    by true = changed_fine (owner.OfRow k) (begun_to_go w) (is_going (owner.OfRow k) w) names are
+    by false = are
 
 building_fine : (w : ℕ) (x : Option Owner) (names : Names) → AreFine names → AreFine (with_building names w x)
 building_fine w None names are = are
@@ -215,11 +218,11 @@ ended_fine names w k old new are = by new
     passed : AreFine (users_passed names w k old)
     passed = released_fine w (users_dropped names k (named_by k old)) (dropped_fine k (named_by k old) names are)
 
-    at_last : (st : NameState) → AreFine (finished_in st (users_passed names w k old) (name.Row k))
+    at_last : (st : NameState) → AreFine (come_to_be st (users_passed names w k old) (name.Row k))
     at_last state.Absent = passed
     at_last (state.Building v) = live_fine (owner.OfRow k) [] (users_passed names w k old) passed
     at_last state.Live = passed
-    at_last (state.Retiring v) = passed
+    at_last (state.Retiring v) = live_fine (owner.OfRow k) [] (users_passed names w k old) passed
 
     by : (x : Option Row) → AreFine (with_own_ended (users_passed names w k old) k x)
     by None = gone_fine (owner.OfRow k) (users_passed names w k old) passed

@@ -1,18 +1,21 @@
 -- what workers have under way stands for the machine when a change of a group has taken effect
-use Rattle.std.proofs.Common.{arith, ◌≡◌, ◌⊎◌, ◌∷◌, ◌++◌, ◌∙◌, inl, inr, ℕ, suc, Bool, true, false, List, [], length, Option, None, Some, is_some, if◌then◌else◌, refl, sym, ap, subst}
+use Rattle.std.proofs.Common.{arith, ◌≡◌, ◌⊎◌, ◌∷◌, ◌++◌, ◌∙◌, inl, inr, ℕ, suc, Bool, true, false, List, [], length, Option, None, Some, is_some, if◌then◌else◌, refl, sym, ap, subst, ◌-◌, ◌≤◌}
 use Rattle.std.proofs.lemmas.List.{append_assoc, length-append}
 use Rattle.std.proofs.lemmas.Option.{same_Some}
+use Rattle.swss_types.specs.declared.interface.IfName.{IfName}
 use Rattle.table_schema.specs.Plan.{IsPlan, Ports}
+use Rattle.table_schema.specs.declared.key.Key.TheVariants as key
 use Rattle.sai_types.specs.declared.weight.WHop.{WHop}
 use Rattle.sai_types.specs.declared.ids.Rid.{Rid}
 use Rattle.sai_types.specs.declared.ids.Vid.{Vid}
 use Rattle.sai_types.specs.declared.thing.Thing.{Thing}
 use Rattle.sai_types.specs.Alike.{IsIn}
 use Rattle.sai_types.proofs.Membership.{in-left, in-right}
-use Rattle.row_layout.specs.Operations.{Change, uses_of}
+use Rattle.sai_types.specs.declared.kind.Kind.{Kind}
+use Rattle.row_layout.specs.Operations.{Change, uses_of, make_all, shared_going}
 use Rattle.row_layout.specs.Rows as owner
 use Rattle.row_layout.specs.Rows.{Owner}
-use Rattle.row_layout.specs.Shared.{shared_things}
+use Rattle.row_layout.specs.Shared.{shared_things, uses}
 use Rattle.switch_machine.specs.Changes.{changed_name}
 use Rattle.switch_machine.specs.Consistent.{IsConsistent}
 use Rattle.switch_machine.specs.Events.{Due, Ended, Follows}
@@ -21,32 +24,34 @@ use Rattle.switch_machine.specs.Steps.{Ends, Moves, finished, moved}
 use Rattle.switch_machine.proofs.Ending.{sound-ended}
 use Rattle.switch_machine.proofs.Moving.{sound-moved}
 use Rattle.switch_machine.proofs.Running.{one_owner, shared_row, stays}
-use Rattle.switch_machine.proofs.Splits.{put_at}
+use Rattle.switch_machine.proofs.Splits.{put_at, use_row_in}
 use Rattle.switch_machine.proofs.Tabled.{tabled}
+use Rattle.switch_machine.specs.Places.{makes}
 use Rattle.ref_counts.specs.declared.name.Name.TheVariants as name
 use Rattle.ref_counts.specs.Registered.{made_live}
 use Rattle.ref_counts.specs.Registry as registry
 use Rattle.ref_counts.specs.Registry.{changed, gone_from, state_of}
 use Rattle.ref_counts.specs.Room.{GivesBack, RoomState}
 use Rattle.orch_flight.specs.Grouping.{GroupOperation, IsGroupTook, first_group_due, group_names_by, members_with_made}
-use Rattle.orch_flight.specs.Operation.{Operation}
+use Rattle.orch_flight.specs.Operation.{Operation, is_between_for}
 use Rattle.registry_laws.specs.Ending.{ended_names}
 use Rattle.registry_laws.specs.Flown.{Flown, flight_of, group_in, group_to_build, group_to_take}
-use Rattle.registry_laws.specs.Flying.{HasStanding, IsFlown, IsGroupFlown, KnowsBoard, flown_as}
+use Rattle.registry_laws.specs.Flying.{HasStanding, IsFlown, IsGroupFlown, KnowsBoard, flown_as, IsRestFrom}
 use Rattle.registry_laws.specs.Known.{SharedStands}
 use Rattle.registry_laws.specs.Registers.{HaveDue, Registers}
 use Rattle.registry_laws.proofs.Aside.{IsAside, aside_finished, aside_moved, aside_then, board_with, board_without, built_state, now_owned}
 use Rattle.registry_laws.proofs.Between.{due_follows, due_moved}
 use Rattle.registry_laws.proofs.Ended.{registers_ended}
 use Rattle.registry_laws.proofs.Fine.{AreFine, ended_fine, fine_of, group_fine}
-use Rattle.registry_laws.proofs.Grouped.{taken_group}
+use Rattle.registry_laws.proofs.Grouped.{taken_group, built_use}
 use Rattle.registry_laws.proofs.Listing.{never_none, not_some, some_of_due}
 use Rattle.registry_laws.proofs.Moved.{gone_moved, same_moved, shared_moved}
 use Rattle.registry_laws.proofs.Parting.{removals_of}
 use Rattle.registry_laws.proofs.Replied.{same_first, same_rest}
-use Rattle.registry_laws.proofs.Rests.{none_of_group, rest_order}
+use Rattle.registry_laws.proofs.Rests.{none_of_group, rest_order, AreTaken, take_taken}
 use Rattle.registry_laws.proofs.Settled.{not_built}
 use Rattle.registry_laws.proofs.Taking.{group_due, made_in, row_due}
+use Rattle.registry_laws.proofs.Beyond.{apart_by, none_less, nothing_less, place_if, taken_behind, taken_both, taken_here_taken, taken_makes, taken_tail}
 
 length_one : {X : Type 0} (xs : List X) (x : X) → length (xs ++ x ∷ []) ≡ suc (length xs)
 length_one xs x = let e = length-append xs (x ∷ []) in omega (arith, e)
@@ -94,7 +99,7 @@ module _ (plan : Ports) (is : IsPlan plan) (capacities : List ℕ) (m : Machine)
 
   -- the row's own changes are of no group
   no_more : HasChangeOf plan p.due o → ⊥
-  no_more t = none_of_group plan p.key (m.board.applied p.key) p.due t.0 (rest_order plan is (m.board.applied p.key) p (λ r e. sound.board.fit p.key r (inl e)) y.over.new y.rest) t.1 (part.hops, t.2)
+  no_more t = none_of_group plan p.key (m.board.applied p.key) p.new p.due t.0 (rest_order plan is (m.board.applied p.key) p (λ r e. sound.board.fit p.key r (inl e)) y.over.new y.rest) t.1 (part.hops, t.2)
 
   abbrev later : Machine
   later = moved m w cs stands
@@ -118,6 +123,51 @@ module _ (plan : Ports) (is : IsPlan plan) (capacities : List ℕ) (m : Machine)
   standing t d i j e =
       let its = now_owned plan is p y.over.now t i in
       moves.back t (stays c (StandsIn m t) t (λ same. shared_row o p.key tt (one_owner plan (changed_name c) o (owner.OfRow p.key) own (subst (λ n. IsOwnedBy plan n (owner.OfRow p.key)) same its))) (y.standing t d i j e))
+
+  -- its row is no interface's
+  no_interface : (n : IfName) → p.key ≡ key.Intf n → ⊥
+  no_interface n same = by z.is
+    where
+      by : ((part.builds ≡ true) × (group_to_build plan names p ≡ Some part.hops)) ⊎ ((part.builds ≡ false) × (group_to_take p ≡ Some part.hops)) → ⊥
+      by (inl h) = let u = use_row_in plan p.key p.new o (built_use plan names p part.hops h.1) in elim (subst (λ k. IsIn o (uses plan k u.0)) same u.2) [ ]
+      by (inr h) = let was = sound.board.left w g o y.flying (taken_group p.retires part.hops h.1) in elim (subst (λ k. IsIn o (uses plan k was.row)) same was.used) [ ]
+
+  not_between : is_between_for p.key p.now p.due ≡ false
+  not_between = apart_by p.key p.now p.due (λ b v ds n a e same at. no_interface n same)
+
+  -- ---- the places that it keeps
+
+  beyond : (q : Kind) → makes q (later.due w) - makes q (later.reserved w) ≡ place_if (is_between_for p.key p.now p.due) q
+  beyond q = ap (λ l. makes q l - makes q (m.reserved w)) due_now ∙ by part.builds refl ∙ sym (ap (λ b. place_if b q) not_between)
+    where
+      zero : makes q (c ∷ cs) - makes q (m.reserved w) ≡ 0
+      zero = ap (λ l. makes q l - makes q (m.reserved w)) (sym moves.due) ∙ y.beyond q ∙ ap (λ b. place_if b q) not_between
+
+      all : (b : Bool) → part.builds ≡ b → first_group_due part.hops b ≡ z.rest.0 ++ took.change ∷ took.rest
+      all b e = sym (ap (first_group_due part.hops) e) ∙ z.rest.1 ∙ ap (λ l. z.rest.0 ++ l) took.due
+
+      own_taken : part.builds ≡ false → AreTaken p.due
+      own_taken e = of y.rest
+        where
+          retires : part.builds ≡ false → p.retires ≡ Some o
+          retires goes = one z.is
+            where
+              one : ((part.builds ≡ true) × (group_to_build plan names p ≡ Some part.hops)) ⊎ ((part.builds ≡ false) × (group_to_take p ≡ Some part.hops)) → p.retires ≡ Some o
+              one (inl h) = let x : true ≡ false = sym h.0 ∙ goes in absurd cc
+              one (inr h) = taken_group p.retires part.hops h.1
+
+          of : IsRestFrom plan (m.board.applied p.key) p → AreTaken p.due
+          of (inl (none, r)) = not_some o (sym none ∙ retires e)
+          of (inr (before, r)) = taken_behind before p.due (subst AreTaken r (taken_here_taken p.retires))
+
+      by : (b : Bool) → part.builds ≡ b → makes q cs - makes q (m.reserved w) ≡ 0
+      by true e =
+          let i : IsIn c (make_all (shared_things o) []) = subst (IsIn c) (sym (all true e)) (in-right c z.rest.0 (took.change ∷ took.rest) (inl (sym same_change))) in
+          let x = made_in (shared_things o) c i in
+          none_less (makes q cs) (makes q (c ∷ cs)) (makes q (m.reserved w)) (subst (λ d. makes q cs ≤ makes q (d ∷ cs)) (sym x.2) (omega arith)) zero
+      by false e =
+          let rest = taken_tail took.change took.rest (taken_behind z.rest.0 (took.change ∷ took.rest) (subst AreTaken (all false e) (take_taken (shared_going o)))) in
+          nothing_less (makes q cs) (makes q (m.reserved w)) (ap (makes q) rest_is ∙ taken_makes q (took.rest ++ p.due) (taken_both took.rest p.due rest (own_taken e)))
 
   due_next : part'.due ≡ took.rest
   due_next = ap (λ (v : GroupOperation). v.due) took.operation
@@ -184,6 +234,8 @@ module _ (plan : Ports) (is : IsPlan plan) (capacities : List ℕ) (m : Machine)
       standing = standing;
       later = y.later;
       group = λ v e. subst (IsGroupFlown plan names p) (same_Some next_part v e) now_part;
+      beyond = beyond;
+      reserves = y.reserves;
     }
 
     group_goes_on : On (Some part') names'
@@ -224,7 +276,7 @@ module _ (plan : Ports) (is : IsPlan plan) (capacities : List ℕ) (m : Machine)
       known_built = subst (λ ns. Registers plan 4 capacities ns room later) (sym (names_by true builds)) (shared_moved plan m w g c cs stands moves 4 capacities names room board.registers is sound o tt own none_left stays_there (members_with_made part made))
 
       built_now : group_to_build plan names' p ≡ None
-      built_now = not_built plan names' later p (λ hops. (known_built.names_known.shared (owner.Group hops) tt).stands) (λ hops t other. none_of_group plan p.key (m.board.applied p.key) p.due t.0 (rest_order plan is (m.board.applied p.key) p (λ r e. sound.board.fit p.key r (inl e)) y.over.new y.rest) (subst (IsIn t.0) (due_now ∙ rest_own) t.1) (hops, t.2))
+      built_now = not_built plan names' later p (λ hops. (known_built.names_known.shared (owner.Group hops) tt).stands) (λ hops t other. none_of_group plan p.key (m.board.applied p.key) p.new p.due t.0 (rest_order plan is (m.board.applied p.key) p (λ r e. sound.board.fit p.key r (inl e)) y.over.new y.rest) (subst (IsIn t.0) (due_now ∙ rest_own) t.1) (hops, t.2))
 
       none_taken : (v : Option (List WHop)) → group_to_take p ≡ v → group_to_take p ≡ None
       none_taken None e = e
@@ -245,6 +297,8 @@ module _ (plan : Ports) (is : IsPlan plan) (capacities : List ℕ) (m : Machine)
         standing = standing;
         later = λ hops h. never_none hops (sym h ∙ built_now);
         group = λ v e. not_some v e;
+        beyond = beyond;
+        reserves = y.reserves;
       }
 
       group_is_built : On None names'

@@ -5,8 +5,6 @@ use Rattle.swss_types.proofs.Proper.{mapped}
 use Rattle.table_schema.specs.Plan.{IsPlan, Ports}
 use Rattle.table_schema.specs.declared.key.Key.{Key}
 use Rattle.table_schema.specs.declared.key.Key.TheVariants as key
-use Rattle.table_schema.specs.declared.row.Row.{Row}
-use Rattle.table_schema.specs.declared.row.Row.TheVariants as row
 use Rattle.table_schema.specs.declared.row.RouteRow.TheVariants as route
 use Rattle.table_schema.specs.declared.row_hop.RowHop.{RowHop}
 use Rattle.sai_types.specs.declared.hop.Hop.{Hop}
@@ -16,6 +14,8 @@ use Rattle.sai_types.specs.declared.thing.Thing.TheVariants as thing
 use Rattle.sai_types.specs.Alike.{IsIn}
 use Rattle.sai_types.specs.Named.{those}
 use Rattle.switch_model.specs.Things.{base_of, hops_of, lane_of, members_of}
+use Rattle.switch_model.specs.Placed as row
+use Rattle.switch_model.specs.Placed.{Placed as Row}
 use Rattle.row_layout.specs.Operations.{take_all, uses_of}
 use Rattle.row_layout.specs.Rows as owner
 use Rattle.row_layout.specs.Rows.{Owner, interface_on}
@@ -97,7 +97,7 @@ module _ (plan : Ports) (is : IsPlan plan) where
   hops_on (key.Route v prefix) (row.Route route.Drop) hops h = elim h [ ]
   hops_on (key.Route v prefix) (row.Route (route.Direct i)) hops h = elim h [ ]
   hops_on (key.Member v p) (row.Member t) hops h = absurd (only (λ o. owner.Group hops ≡ o → ⊥) (owner.Group hops) _ (λ z. cc) (from_in (lane_of plan p) (λ lane. owner.Bridge lane ∷ []) (owner.Group hops) h).2 refl)
-  hops_on (key.Addr i ip len) row.Addr hops h = let z = address_use plan i ip (owner.Group hops) h in absurd cc
+  hops_on (key.Addr i ip len) (row.Addr v) hops h = let z = address_use plan i v ip (owner.Group hops) h in absurd cc
   hops_on _ _ hops h = elim h [ ]
 
 -- ---- the operation of a group begins
@@ -151,6 +151,8 @@ module _ (plan : Ports) (capacities : List ℕ) (names : Names) (room : RoomStat
         standing = was.standing;
         later = was.later;
         group = λ h e. subst (IsGroupFlown plan names x.operation) (same_Some g h e) grouped;
+        beyond = was.beyond;
+        reserves = was.reserves;
       }
 
       idle : (v : ℕ) → IsPut w v (Some y) flown None → m.board.flights v ≡ None

@@ -6,6 +6,7 @@ pub mod Needing
 pub mod Knowing
 pub mod Neighbours
 pub mod Ids
+pub mod Interfaces
 pub mod Starting
 pub mod Single
 pub mod Staying

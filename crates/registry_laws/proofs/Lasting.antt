@@ -1,16 +1,16 @@
 -- the thing of a row that makes its name live is the last that is made
 use Rattle.std.proofs.Common.{◌≡◌, ◌∷◌, ◌++◌, Bool, true, false, List, [], Option, None, Some, refl, subst, if◌then◌else◌}
-use Rattle.swss_types.specs.declared.vrf.Vrf.TheVariants as vrf
+use Rattle.swss_types.specs.Vrf.{same_vrf}
 use Rattle.table_schema.specs.Plan.{Ports}
 use Rattle.table_schema.specs.declared.key.Key.{Key}
 use Rattle.table_schema.specs.declared.key.Key.TheVariants as key
-use Rattle.table_schema.specs.declared.row.Row.{Row}
-use Rattle.table_schema.specs.declared.row.Row.TheVariants as row
 use Rattle.sai_types.specs.declared.hop.Base.{Base}
 use Rattle.sai_types.specs.declared.weight.WHop.{WHop}
 use Rattle.sai_types.specs.declared.thing.Thing.{Thing}
 use Rattle.sai_types.specs.declared.thing.Thing.TheVariants as thing
 use Rattle.switch_model.specs.Things.{base_of, lane_of, members_of}
+use Rattle.switch_model.specs.Placed as row
+use Rattle.switch_model.specs.Placed.{Placed as Row}
 use Rattle.row_layout.specs.Operations.{Change, Set, going, make_all, own_changes, own_sets, thing_of_port, same_thing, set_all, set_to, take_all}
 use Rattle.row_layout.specs.Rows as owner
 use Rattle.row_layout.specs.Rows.{Owner, from, goal_of, own_things}
@@ -45,14 +45,11 @@ module _ (new : Option Row) where
   sets_last [] us = tt
   sets_last (t ∷ ts) [] = tt
 
-  own_sets_last : (plan : Ports) (k : Key) (a r : Row) → AreLastMade (own_sets plan k a r)
-  own_sets_last plan (key.Port port) (row.Port a) (row.Port r) =
-      set_last (thing_of_port a.lanes a.speed a.mtu a.up) (thing_of_port a.lanes r.speed a.mtu a.up) (set_to (thing_of_port a.lanes r.speed a.mtu a.up) (thing_of_port a.lanes r.speed r.mtu a.up) (set_to (thing_of_port a.lanes r.speed r.mtu a.up) (thing_of_port a.lanes r.speed r.mtu r.up) []))
-      (set_last (thing_of_port a.lanes r.speed a.mtu a.up) (thing_of_port a.lanes r.speed r.mtu a.up) (set_to (thing_of_port a.lanes r.speed r.mtu a.up) (thing_of_port a.lanes r.speed r.mtu r.up) [])
-      (set_last (thing_of_port a.lanes r.speed r.mtu a.up) (thing_of_port a.lanes r.speed r.mtu r.up) [] tt))
-  own_sets_last plan k a r = sets_last (own_things plan k a) (own_things plan k r)
-
   module _ (r : Row) (is : new ≡ Some r) where
+    again_last : {X : Type 0} (x : Option X) (f g : X → Thing) → AreLastMade (take_all (from x (λ z. f z ∷ [])) (make_all (from x (λ z. g z ∷ [])) []))
+    again_last None f g = tt
+    again_last (Some x) f g = (λ h. elim h [ ], (λ _. (refl, r, is), tt))
+
     one_last : {X : Type 0} (x : Option X) (g : X → Thing) → AreLastMade (make_all (from x (λ z. g z ∷ [])) [])
     one_last None g = tt
     one_last (Some x) g = (λ _. (refl, r, is), tt)
@@ -62,7 +59,7 @@ module _ (new : Option Row) where
     things_last plan (key.Vlan vlan) row.Vlan = (λ _. (refl, r, is), tt)
     things_last plan (key.Vrf label) row.Vrf = (λ _. (refl, r, is), tt)
     things_last plan (key.Member vlan port) (row.Member tagging) = one_last (lane_of plan port) (λ lane. thing.VlanMember vlan lane tagging)
-    things_last plan (key.Intf n) row.Intf = one_last (base_of plan n) (λ b. thing.Rif b vrf.Default)
+    things_last plan (key.Intf n) (row.Intf v) = one_last (base_of plan n) (λ b. thing.Rif b v)
     things_last plan (key.Neigh n ip) (row.Neigh mac) = by (base_of plan n)
       where
         by : (x : Option Base) → AreLastMade (make_all (from x (λ b. thing.Neighbor (record { on = b; ip = ip }) mac ∷ thing.NextHop (record { on = b; ip = ip }) ∷ [])) [])
@@ -71,11 +68,23 @@ module _ (new : Option Row) where
     things_last plan (key.Route v prefix) (row.Route a) = one_last (goal_of plan a) (thing.Route v prefix)
     things_last plan _ _ = tt
 
+    own_sets_last : (plan : Ports) (k : Key) (a b : Row) → AreLastMade (own_sets plan k a b)
+    own_sets_last plan (key.Port port) (row.Port a) (row.Port b) =
+        set_last (thing_of_port a.lanes a.speed a.mtu a.up) (thing_of_port a.lanes b.speed a.mtu a.up) (set_to (thing_of_port a.lanes b.speed a.mtu a.up) (thing_of_port a.lanes b.speed b.mtu a.up) (set_to (thing_of_port a.lanes b.speed b.mtu a.up) (thing_of_port a.lanes b.speed b.mtu b.up) []))
+        (set_last (thing_of_port a.lanes b.speed a.mtu a.up) (thing_of_port a.lanes b.speed b.mtu a.up) (set_to (thing_of_port a.lanes b.speed b.mtu a.up) (thing_of_port a.lanes b.speed b.mtu b.up) [])
+        (set_last (thing_of_port a.lanes b.speed b.mtu a.up) (thing_of_port a.lanes b.speed b.mtu b.up) [] tt))
+    own_sets_last plan (key.Intf n) (row.Intf v) (row.Intf w) = by (same_vrf v w)
+      where
+        by : (t : Bool) → AreLastMade (if t then [] else take_all (own_things plan (key.Intf n) (row.Intf v)) (make_all (own_things plan (key.Intf n) (row.Intf w)) []))
+        by true = tt
+        by false = again_last (base_of plan n) (λ b. thing.Rif b v) (λ b. thing.Rif b w)
+    own_sets_last plan k a b = sets_last (own_things plan k a) (own_things plan k b)
+
   own_last : (plan : Ports) (k : Key) (old x : Option Row) → new ≡ x → AreLastMade (own_changes plan k old x)
   own_last plan k None None e = tt
   own_last plan k None (Some r) e = things_last r e plan k r
   own_last plan k (Some a) None e = takes_last (going plan k a)
-  own_last plan k (Some a) (Some r) e = own_sets_last plan k a r
+  own_last plan k (Some a) (Some r) e = own_sets_last r e plan k a r
 
   members_last : (all hops : List WHop) (own : List Change) → AreLastMade own → AreLastMade (make_all (members_of all hops) own)
   members_last all [] own h = h

@@ -1,11 +1,9 @@
 -- what a worker has under way when an operation has begun
-use Rattle.std.proofs.Common.{◌≡◌, ◌∷◌, ◌++◌, ◌∙◌, inl, inr, ℕ, Bool, true, false, if◌then◌else◌, List, [], Option, None, Some, option_map, refl, sym, ap, subst}
+use Rattle.std.proofs.Common.{◌≡◌, ◌∷◌, ◌++◌, ◌∙◌, inl, inr, ℕ, Bool, true, false, if◌then◌else◌, List, [], Option, None, Some, option_map, refl, sym, ap, subst, ◌⊎◌, ◌-◌, ap₂}
 use Rattle.swss_types.specs.declared.vrf.Vrf.{Vrf}
 use Rattle.table_schema.specs.Plan.{IsPlan, Ports}
 use Rattle.table_schema.specs.declared.key.Key.{Key}
 use Rattle.table_schema.specs.declared.key.Key.TheVariants as key
-use Rattle.table_schema.specs.declared.row.Row.{Row}
-use Rattle.table_schema.specs.declared.row.Row.TheVariants as row
 use Rattle.table_schema.specs.declared.row.RouteRow.{RouteRow}
 use Rattle.table_schema.specs.declared.row.RouteRow.TheVariants as route
 use Rattle.sai_types.specs.declared.hop.Base.{Base}
@@ -17,20 +15,24 @@ use Rattle.sai_types.specs.declared.thing.Thing.TheVariants as thing
 use Rattle.sai_types.specs.Alike.{IsIn}
 use Rattle.swss_types.specs.declared.address.Prefix.{Prefix}
 use Rattle.switch_model.specs.Things.{base_of, hops_of, lane_of}
+use Rattle.switch_model.specs.Placed as row
+use Rattle.switch_model.specs.Placed.{Placed as Row}
 use Rattle.row_layout.specs.Operations.{Change, Make, Set, make_all, own_changes, same_thing, set_all, set_to, uses_of}
 use Rattle.row_layout.specs.Rows as owner
 use Rattle.row_layout.specs.Rows.{Owner, from, goal_to, goal_of, own_things}
 use Rattle.row_layout.specs.Shared.{group_by, route_uses, uses}
 use Rattle.row_layout.proofs.Members.{from_in, only}
 use Rattle.switch_machine.specs.Consistent.{IsConsistent}
-use Rattle.switch_machine.specs.Flights.{Fits, MachineFlight, HasChangeOf, Machine, Runs, StandsIn}
-use Rattle.switch_machine.specs.Operations.{MayBegin}
+use Rattle.switch_machine.specs.Flights.{Fits, MachineFlight, HasChangeOf, Machine, Runs, StandsIn, goes_over}
+use Rattle.switch_machine.specs.Operations.{MayBegin, built_first}
 use Rattle.switch_machine.specs.Steps.{started}
 use Rattle.switch_machine.proofs.Beginning.{sound-begun}
 use Rattle.sai_types.proofs.Equal.{thing-exact}
+use Rattle.sai_types.specs.declared.kind.Kind.{Kind}
 use Rattle.switch_machine.proofs.Sequence.{IsShort, uses_short}
 use Rattle.switch_machine.proofs.Splits.{own_row_in, put_at}
 use Rattle.switch_machine.proofs.Tabled.{address_use, tabled}
+use Rattle.switch_machine.specs.Places.{makes}
 use Rattle.ref_counts.specs.declared.name.Name.TheVariants as name
 use Rattle.ref_counts.specs.declared.name.NameState.TheVariants as state
 use Rattle.ref_counts.specs.Registry as registry
@@ -46,12 +48,13 @@ use Rattle.registry_laws.specs.Known.{SharedStands}
 use Rattle.registry_laws.specs.Registers.{Registers, beginning, due_first, group_built}
 use Rattle.registry_laws.proofs.Apart.{built_apart}
 use Rattle.registry_laws.proofs.Aside.{building_is, built_some}
-use Rattle.registry_laws.proofs.Going.{told-over}
 use Rattle.registry_laws.proofs.Listing.{never_none, not_some, some_of_due}
 use Rattle.registry_laws.proofs.Nexts.{next_later, next_now, runs_later, sets_by}
 use Rattle.registry_laws.proofs.Rests.{AreInOrder, none_of_group, rest_order}
 use Rattle.registry_laws.proofs.Settled.{not_built, settled_by, settled_names_by}
 use Rattle.registry_laws.proofs.Sharing.{absent_first}
+use Rattle.registry_laws.proofs.Going.{GoesOver, going_how, over_makes}
+use Rattle.registry_laws.proofs.Beyond.{first_apart, less_itself, place_if}
 
 -- ---- a route that comes to a group has a change of its own
 
@@ -100,7 +103,7 @@ module _ (plan : Ports) (hops : List WHop) where
   own_some (key.Route v prefix) (row.Route route.Drop) old i fits unused h = i
   own_some (key.Route v prefix) (row.Route (route.Direct n)) old i fits unused h = i
   own_some (key.Member v p) (row.Member t) old i fits unused h = only (λ o. owner.Group hops ≡ o → ⊥) (owner.Group hops) _ (λ z. cc) (from_in (lane_of plan p) (λ lane. owner.Bridge lane ∷ []) (owner.Group hops) i).2 refl
-  own_some (key.Addr n ip len) row.Addr old i fits unused h = let z = address_use plan n ip (owner.Group hops) i in cc
+  own_some (key.Addr n ip len) (row.Addr v) old i fits unused h = let z = address_use plan n v ip (owner.Group hops) i in cc
   own_some _ _ old i fits unused h = elim i [ ]
 
 -- ---- the operation before it leaves anything
@@ -137,15 +140,8 @@ module _ (plan : Ports) (is : IsPlan plan) (capacities : List ℕ) (m : Machine)
   abbrev f : MachineFlight
   f = flight_of first
 
-  -- it is the one that begins
-  begun_is : begun ≡ f
-  begun_is = ap told (sym (told-over k old new))
-    where
-      told : Bool → MachineFlight
-      told goes = record { key = k; new = new; leaves = leaving plan k old new; retires = None; goes = goes }
-
   here : later.board.flights w ≡ Some f
-  here = put_at w w (Some begun) m.board.flights refl ∙ ap Some begun_is
+  here = put_at w w (Some begun) m.board.flights refl
 
   due_is : later.due w ≡ group_built builds ++ own
   due_is = put_at w w due m.due refl ∙ built_apart builds (own_changes plan k old new)
@@ -156,7 +152,7 @@ module _ (plan : Ports) (is : IsPlan plan) (capacities : List ℕ) (m : Machine)
   rest : IsRestFrom plan old first
   rest = inl (refl, (builds, ([], refl)))
 
-  in_order : AreInOrder plan k old own
+  in_order : AreInOrder plan k old new own
   in_order = rest_order plan is old first old_fits begins.fit rest
 
   stands : (hops : List WHop) → SharedStands plan later (owner.Group hops) (state_of names' (name.Group hops))
@@ -189,7 +185,7 @@ module _ (plan : Ports) (is : IsPlan plan) (capacities : List ℕ) (m : Machine)
       touched = (Make (thing.Group hops), subst (IsIn (Make (thing.Group hops))) (sym (due_is ∙ ap (λ b. group_built b ++ own) e)) (inl refl), refl)
 
   builds_none : group_built builds ≡ [] → group_to_build plan names' first ≡ None
-  builds_none e = not_built plan names' later first stands (λ hops t other. none_of_group plan k old own t.0 in_order (subst (IsIn t.0) (due_is ∙ ap (λ g. g ++ own) e) t.1) (hops, t.2))
+  builds_none e = not_built plan names' later first stands (λ hops t other. none_of_group plan k old new own t.0 in_order (subst (IsIn t.0) (due_is ∙ ap (λ g. g ++ own) e) t.1) (hops, t.2))
 
   -- what is due of the group is what its operation is to make
   group_is : (x : Option Owner) → builds ≡ x → whole_group (group_to_build plan names' first) None ≡ group_built x
@@ -227,16 +223,22 @@ module _ (plan : Ports) (is : IsPlan plan) (capacities : List ℕ) (m : Machine)
   now_runs : Runs plan f (StandsIn later) (group_built builds ++ own)
   now_runs = subst (Runs plan f (StandsIn later)) due_is (sound'.runs w f here)
 
-  next : IsChangeFor plan first own
-  next = by new refl
+  -- a row that goes builds nothing
+  built_none : goes_over k old new ≡ true → builds ≡ None
+  built_none goes = by (going_how k old new goes)
     where
-      by : (x : Option Row) → new ≡ x → IsChangeFor plan first own
-      by (Some r) e =
+      by : (new ≡ None) ⊎ GoesOver k old new → builds ≡ None
+      by (inl none) = ap (to_build plan names k) none
+      by (inr x) = ap₂ (to_build plan names) x.key_is x.new_is
+
+  next : IsChangeFor plan first own
+  next = by (goes_over k old new) refl
+    where
+      by : (b : Bool) → goes_over k old new ≡ b → IsChangeFor plan first own
+      by false e =
           let runs = runs_later plan f (group_built builds) own (StandsIn later) now_runs in
-          next_later plan is later sound' w first here old_fits (inl refl) runs.0 own in_order (λ none. never_none r (sym e ∙ none)) refl runs.1
-      by None e =
-          let nothing : builds ≡ None = ap (to_build plan names k) e in
-          next_now plan is later sound' w first here old_fits (inl refl) own in_order (subst (λ b. Runs plan f (StandsIn later) (group_built b ++ own)) nothing now_runs)
+          next_later plan is later sound' w first here old_fits (inl refl) runs.0 own in_order e refl runs.1
+      by true e = next_now plan is later sound' w first here old_fits (inl refl) own in_order (subst (λ b. Runs plan f (StandsIn later) (group_built b ++ own)) (built_none e) now_runs)
 
   sets : SetsTo plan first own
   sets = let runs = runs_later plan f (group_built builds) own (StandsIn later) now_runs in sets_by plan first runs.0 own runs.1
@@ -253,7 +255,16 @@ module _ (plan : Ports) (is : IsPlan plan) (capacities : List ℕ) (m : Machine)
     standing = λ t c i j e. let r = own_row_in plan k old t i in (sound.rest k t begins.rests ((tabled plan is).own k r.0 t (old_fits r.0 r.1) r.2)).1 i;
     later = has_own;
     group = λ g h. not_some g h;
+    beyond = λ q. ap₂ (λ a b. makes q a - makes q b) (put_at w w due m.due refl) kept ∙ less_itself (makes q due) ∙ sym (ap (λ b. place_if b q) (first_apart plan names k old new old_fits begins.fit));
+    reserves = λ r e goes q. ap (makes q) (kept ∙ ap (λ b. built_first b (own_changes plan k old new)) (built_none goes)) ∙ by_row r e q (going_how k old new goes);
   }
+    where
+      kept : later.reserved w ≡ due
+      kept = put_at w w due m.reserved refl
+
+      by_row : (r : Row) → new ≡ Some r → (q : Kind) → (new ≡ None) ⊎ GoesOver k old new → makes q (own_changes plan k old new) ≡ 0
+      by_row r e q (inl none) = not_some r (sym none ∙ e)
+      by_row r e q (inr x) = over_makes plan k old new x q
 
 -- the operation that starts is the one that has left what it had to
 pub started_is : (names : registry.Names) (w : ℕ) (k : Key) (was new : Option Row) (due : List Change) (leaves : Option Owner) → started_by names w k was new due leaves ≡ settled_by names (record { worker = w; key = k; now = was; new = new; due = due; leaves = leaves; retires = None }) due leaves

@@ -4,11 +4,13 @@ pub mod Apart
 pub mod Aside
 pub mod Begun
 pub mod Between
+pub mod Beyond
 pub mod Dues
 pub mod Ended
 pub mod Fine
 pub mod Finding
 pub mod Going
+pub mod Inside
 pub mod Lasting
 pub mod GroupReplied
 pub mod Grouped

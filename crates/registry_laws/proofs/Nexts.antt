@@ -1,11 +1,10 @@
 -- what the change that is due next is about
-use Rattle.std.proofs.Common.{◌≡◌, ◌⊎◌, ◌∷◌, ◌++◌, ◌∙◌, inl, inr, ℕ, List, [], Option, None, Some, refl, sym, ap, subst}
+use Rattle.std.proofs.Common.{◌≡◌, ◌⊎◌, ◌∷◌, ◌++◌, ◌∙◌, inl, inr, ℕ, List, [], Option, None, Some, refl, sym, ap, subst, true, false}
 use Rattle.std.proofs.lemmas.Option.{same_Some}
+use Rattle.std.proofs.lemmas.Bool.{false≢true}
 use Rattle.table_schema.specs.Plan.{IsPlan, Ports}
 use Rattle.table_schema.specs.declared.key.Key.{Key}
 use Rattle.table_schema.specs.declared.key.Key.TheVariants as key
-use Rattle.table_schema.specs.declared.row.Row.{Row}
-use Rattle.table_schema.specs.declared.row.Row.TheVariants as row
 use Rattle.sai_types.specs.declared.hop.Base.{Base}
 use Rattle.sai_types.specs.declared.thing.Goal.{Goal}
 use Rattle.sai_types.specs.declared.thing.Thing.{Thing}
@@ -16,11 +15,13 @@ use Rattle.sai_types.specs.Names as thing_name
 use Rattle.sai_types.specs.Names.{name_of}
 use Rattle.sai_types.proofs.Membership.{in-left, in-right}
 use Rattle.switch_model.specs.Things.{base_of, lane_of}
+use Rattle.switch_model.specs.Placed as row
+use Rattle.switch_model.specs.Placed.{Placed as Row}
 use Rattle.row_layout.specs.Operations.{Change, Make, Set, Take}
 use Rattle.row_layout.specs.Rows as owner
 use Rattle.row_layout.specs.Rows.{Owner, from, goal_of, own_things}
 use Rattle.switch_machine.specs.Changes.{IsSamePort, Resembles, after}
-use Rattle.switch_machine.specs.Consistent.{IsConsistent}
+use Rattle.switch_machine.specs.Consistent.{IsConsistent, IsLike}
 use Rattle.switch_machine.specs.Flights.{CanSet, CanTake, Fits, MachineFlight, Goes, IsOwnedBy, IsRow, Machine, Runs, StandsIn, own_of}
 use Rattle.switch_machine.proofs.Splits.{own_row_in}
 use Rattle.switch_machine.proofs.Tabled.{are_shared_by}
@@ -29,9 +30,9 @@ use Rattle.orch_flight.specs.Operation.{Operation}
 use Rattle.orch_flight.specs.Starting.{taken_here}
 use Rattle.registry_laws.specs.Flown.{flight_of}
 use Rattle.registry_laws.specs.Flying.{IsBetween}
-use Rattle.registry_laws.proofs.Going.{none_new}
 use Rattle.registry_laws.proofs.Listing.{not_some}
 use Rattle.registry_laws.proofs.Rests.{AreInOrder}
+use Rattle.registry_laws.proofs.Going.{GoesOver, going_how}
 
 pub resembles_name : (u t : Thing) → Resembles u t → name_of u ≡ name_of t
 resembles_name u t h = by h.same
@@ -69,10 +70,10 @@ same_names plan (key.Vrf label) r n t fr fn h = elim fr [ ]
 same_names plan (key.Member v p) (row.Member x) (row.Member z) t fr fn h = one_named (lane_of plan p) (λ lane. thing.VlanMember v lane x) (λ lane. thing.VlanMember v lane z) t h (λ lane e. refl)
 same_names plan (key.Member v p) (row.Member x) n t fr fn h = elim fn [ ]
 same_names plan (key.Member v p) r n t fr fn h = elim fr [ ]
-same_names plan (key.Intf i) row.Intf row.Intf t fr fn h = (t, h, refl)
-same_names plan (key.Intf i) row.Intf n t fr fn h = elim fn [ ]
+same_names plan (key.Intf i) (row.Intf v) (row.Intf w) t fr fn h = one_named (base_of plan i) (λ b. thing.Rif b v) (λ b. thing.Rif b w) t h (λ b e. refl)
+same_names plan (key.Intf i) (row.Intf v) n t fr fn h = elim fn [ ]
 same_names plan (key.Intf i) r n t fr fn h = elim fr [ ]
-same_names plan (key.Addr i ip len) row.Addr n t fr fn h = elim h [ ]
+same_names plan (key.Addr i ip len) (row.Addr v) n t fr fn h = elim h [ ]
 same_names plan (key.Addr i ip len) r n t fr fn h = elim fr [ ]
 same_names plan (key.Neigh i ip) (row.Neigh x) (row.Neigh z) t fr fn h = by (base_of plan i) h
   where
@@ -118,14 +119,6 @@ module _ (plan : Ports) (is : IsPlan plan) (m : Machine) (sound : IsConsistent p
       by (inl same) = of (m.board.applied p.key) refl same
       by (inr (a, r, n, old, new, now)) = (n, now)
 
-  -- where none is to be the row is the applied one
-  now_applied : p.new ≡ None → p.now ≡ m.board.applied p.key
-  now_applied none = by between
-    where
-      by : IsBetween (m.board.applied p.key) p.new p.now → p.now ≡ m.board.applied p.key
-      by (inl same) = same
-      by (inr (a, r, n, old, new, now)) = not_some r (sym none ∙ new)
-
   module _ (V : Thing → Type 0) where
     set_for : (u : Thing) (cs : List Change) → (m.board.applied p.key ≡ None → ⊥) → CanSet plan f V u → IsChangeFor plan p (Set u ∷ cs)
     set_for u cs some can =
@@ -134,23 +127,38 @@ module _ (plan : Ports) (is : IsPlan plan) (m : Machine) (sound : IsConsistent p
         let old = same_names plan p.key r.0 n.0 can.like (new_fits r.0 r.1) (now_fits n.0 n.1) r.2 in
         (old.0, subst (λ z. IsIn old.0 (own_of plan p.key z)) (sym n.1) old.1, old.2 ∙ sym (resembles_name u can.like can.resembles))
 
-    -- where a row is to be and nothing is taken away that was shared, nothing of the row is taken away
-    none_gone : (n : thing_name.ThingName) → (p.new ≡ None → ⊥) → p.retires ≡ None → Goes plan f n → ⊥
-    none_gone n some none (inl own) = some (none_new p.new own.1)
-    none_gone n some none (inr x) = not_some x.0 (sym none ∙ x.2)
+    -- where the applied row does not go and nothing is taken away that was shared, nothing is taken away
+    none_gone : (n : thing_name.ThingName) → f.goes ≡ false → p.retires ≡ None → Goes plan f n → ⊥
+    none_gone n stays none (inl own) = false≢true (sym stays ∙ own.1)
+    none_gone n stays none (inr x) = not_some x.0 (sym none ∙ x.2)
 
-    pub next_later : (due : List Change) → AreInOrder plan p.key (m.board.applied p.key) due → (p.new ≡ None → ⊥) → p.retires ≡ None → Runs plan f V due → IsChangeFor plan p due
-    next_later [] order some none runs = tt
-    next_later (Make t ∷ cs) order some none runs = runs.0.final
-    next_later (Set u ∷ cs) order some none runs = set_for u cs order.1.0 runs.0
-    next_later (Take n ∷ cs) order some none runs = absurd (none_gone n some none runs.0.goes)
+    pub next_later : (due : List Change) → AreInOrder plan p.key (m.board.applied p.key) p.new due → f.goes ≡ false → p.retires ≡ None → Runs plan f V due → IsChangeFor plan p due
+    next_later [] order stays none runs = tt
+    next_later (Make t ∷ cs) order stays none runs = runs.0.final
+    next_later (Set u ∷ cs) order stays none runs = set_for u cs order.1.0 runs.0
+    next_later (Take n ∷ cs) order stays none runs = absurd (none_gone n stays none runs.0.goes)
 
-  its_row : (r : Row) → IsRow m.board p.key r → p.new ≡ None → m.board.applied p.key ≡ Some r
-  its_row r (inl at) none = at
-  its_row r (inr (v, g, at, same, new)) none =
-      let worker = sound.board.one v w g f at flying same in
-      let one = same_Some g f (sym at ∙ ap m.board.flights worker ∙ flying) in
-      not_some r (sym none ∙ ap (λ (z : MachineFlight). z.new) (sym one) ∙ new)
+  -- a thing of the key's that stands has its name in the row that there is now, where the applied one goes
+  now_named : (u : Thing) → StandsIn m u → IsOwnedBy plan (name_of u) (owner.OfRow p.key) → f.goes ≡ true → HasNamed (own_of plan p.key p.now) u
+  now_named u stands own goes =
+      let n = now_some applied in
+      let named = same_names plan p.key like.row n.0 like.thing (sound.board.fit p.key like.row like.is) (now_fits n.0 n.1) like.of in
+      (named.0, subst (λ z. IsIn named.0 (own_of plan p.key z)) (sym n.1) named.1, named.2 ∙ sym (resembles_name u like.thing like.resembles))
+    where
+      like : IsLike plan m.board p.key u
+      like = sound.like p.key u stands own
+
+      -- the key has no row that is to come, or it is to take the place of one
+      applied : m.board.applied p.key ≡ None → ⊥
+      applied none = by (going_how p.key (m.board.applied p.key) p.new (sym (sound.board.goes w f flying) ∙ goes)) like.is
+        where
+          by : (p.new ≡ None) ⊎ GoesOver p.key (m.board.applied p.key) p.new → IsRow m.board p.key like.row → ⊥
+          by (inr x) _ = not_some (row.Intf x.router_was) (sym none ∙ x.old_is)
+          by (inl gone) (inl at) = not_some like.row (sym none ∙ at)
+          by (inl gone) (inr (v, g, at, same, new)) =
+              let worker = sound.board.one v w g f at flying same in
+              let one = same_Some g f (sym at ∙ ap m.board.flights worker ∙ flying) in
+              not_some like.row (sym gone ∙ ap (λ (z : MachineFlight). z.new) (sym one) ∙ new)
 
   take_for : (n : thing_name.ThingName) (cs : List Change) → CanTake plan f (StandsIn m) n → IsChangeFor plan p (Take n ∷ cs)
   take_for n cs can = by can.goes
@@ -160,16 +168,14 @@ module _ (plan : Ports) (is : IsPlan plan) (m : Machine) (sound : IsConsistent p
 
       by : Goes plan f n → (old : Thing) × IsIn old (things_held plan p) × (name_of old ≡ n)
       by (inl own) =
-          let like = sound.like p.key there.0 there.1 (subst (λ z. IsOwnedBy plan z (owner.OfRow p.key)) (sym there.2) own.0) in
-          let none = none_new p.new own.1 in
-          let now = now_applied none ∙ its_row like.row like.is none in
-          (like.thing, in-left like.thing (own_of plan p.key p.now) (things_retired p.retires) (subst (λ z. IsIn like.thing (own_of plan p.key z)) (sym now) like.of), sym (resembles_name there.0 like.thing like.resembles) ∙ there.2)
+          let x = now_named there.0 there.1 (subst (λ z. IsOwnedBy plan z (owner.OfRow p.key)) (sym there.2) own.0) own.1 in
+          (x.0, in-left x.0 (own_of plan p.key p.now) (things_retired p.retires) x.1, x.2 ∙ there.2)
       by (inr (o, own, retires)) =
           let was = sound.board.left w f o flying retires in
           let held = sound.held o there.0 there.1 (subst (λ z. IsOwnedBy plan z o) (sym there.2) own) (are_shared_by plan is p.key was.row o was.used) in
           (there.0, in-right there.0 (own_of plan p.key p.now) (things_retired p.retires) (subst (λ z. IsIn there.0 (things_retired z)) (sym retires) held.0), there.2)
 
-  pub next_now : (due : List Change) → AreInOrder plan p.key (m.board.applied p.key) due → Runs plan f (StandsIn m) due → IsChangeFor plan p due
+  pub next_now : (due : List Change) → AreInOrder plan p.key (m.board.applied p.key) p.new due → Runs plan f (StandsIn m) due → IsChangeFor plan p due
   next_now [] order runs = tt
   next_now (Make t ∷ cs) order runs = runs.0.final
   next_now (Set u ∷ cs) order runs = set_for (StandsIn m) u cs order.1.0 runs.0

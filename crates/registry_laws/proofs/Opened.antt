@@ -1,12 +1,11 @@
 -- what workers have under way stands for the machine when an operation has begun
-use Rattle.std.proofs.Common.{◌≡◌, ◌<◌, ◌∙◌, ℕ, true, List, [], Option, None, Some, Ok, refl, sym, subst}
-use Rattle.table_schema.specs.Names.{names_of}
+use Rattle.std.proofs.Common.{◌≡◌, ◌<◌, ◌∙◌, ℕ, true, List, [], Option, None, Some, Ok, refl, sym, subst, option_map, ap}
 use Rattle.table_schema.specs.Plan.{IsPlan, Ports}
 use Rattle.table_schema.specs.declared.key.Key.{Key}
-use Rattle.table_schema.specs.declared.row.Row.{Row}
 use Rattle.switch_model.specs.Desired.{have_rows}
+use Rattle.switch_model.specs.Placed.{Placed as Row, bare, bare_rows, router_in}
 use Rattle.switch_machine.specs.Consistent.{IsConsistent}
-use Rattle.switch_machine.specs.Events.{HasLeft, IsBegin, IsSafe, SwitchState}
+use Rattle.switch_machine.specs.Events.{HasLeft, IsBegin, IsSafe, SwitchState, placed_good}
 use Rattle.switch_machine.specs.Flights.{Fits, IsResting, Machine, put}
 use Rattle.switch_machine.specs.Operations.{MayBegin}
 use Rattle.switch_machine.specs.Places.{HasRoomFor}
@@ -14,6 +13,7 @@ use Rattle.switch_machine.specs.Steps.{started}
 use Rattle.switch_machine.specs.Written.{good_of}
 use Rattle.ref_counts.specs.Registry.{Names}
 use Rattle.ref_counts.specs.Room.{GivesBack, RoomState}
+use Rattle.orch_flight.specs.Needing.{row_names}
 use Rattle.orch_flight.specs.Operation.{Operation}
 use Rattle.orch_flight.specs.Starting.{IsStartedBy, begun_names, first_due, leaving}
 use Rattle.registry_laws.specs.Ending.{ended_names}
@@ -28,8 +28,9 @@ use Rattle.registry_laws.proofs.Launched.{started_is, started_names_is}
 use Rattle.registry_laws.proofs.Settled.{Both, IsLater, both, settled, settled_names}
 use Rattle.registry_laws.proofs.Starting.{registers_started}
 use Rattle.registry_laws.proofs.Waiting.{begins_by, room_by}
+use Rattle.registry_laws.proofs.Inside.{placed_none}
 
-module _ (plan : Ports) (is : IsPlan plan) (capacities : List ℕ) (s : SwitchState) (kept : IsSafe plan 4 capacities s) (names : Names) (room room' : RoomState) (numbers : List ℕ) (flown : ℕ → Option Flown) (board : KnowsBoard plan capacities names room flown s.machine) (are : AreUsed s.objects numbers) (w : ℕ) (less : w < 4) (free : flown w ≡ None) (k : Key) (rests : IsResting s.machine.board k) (differs : s.machine.board.applied k ≡ good_of plan s.written k → ⊥) (fits : (r : Row) → good_of plan s.written k ≡ Some r → have_rows s.machine.board.applied (names_of k r) ≡ true → Fits plan k r) (later : List Key) (left : HasLeft k s.to_sync later) (f : Operation) (names' : Names) (starts : IsStartedBy plan names room numbers w k (s.machine.board.applied k) (good_of plan s.written k) (Ok f) names' room') where
+module _ (plan : Ports) (is : IsPlan plan) (capacities : List ℕ) (s : SwitchState) (kept : IsSafe plan 4 capacities s) (names : Names) (room room' : RoomState) (numbers : List ℕ) (flown : ℕ → Option Flown) (board : KnowsBoard plan capacities names room flown s.machine) (are : AreUsed s.machine s.objects numbers) (w : ℕ) (less : w < 4) (free : flown w ≡ None) (k : Key) (rests : IsResting s.machine.board k) (differs : option_map bare (s.machine.board.applied k) ≡ good_of plan s.written k → ⊥) (fits : (r : Row) → placed_good plan s.machine.board s.written k ≡ Some r → have_rows (bare_rows s.machine.board.applied) (row_names k r) ≡ true → Fits plan k r) (later : List Key) (left : HasLeft k s.to_sync later) (f : Operation) (names' : Names) (starts : IsStartedBy plan names room numbers w k (s.machine.board.applied k) (placed_good plan s.machine.board s.written k) (Ok f) names' room') where
   abbrev m : Machine
   m = s.machine
 
@@ -37,7 +38,7 @@ module _ (plan : Ports) (is : IsPlan plan) (capacities : List ℕ) (s : SwitchSt
   old = m.board.applied k
 
   abbrev new : Option Row
-  new = good_of plan s.written k
+  new = placed_good plan s.machine.board s.written k
 
   begins : MayBegin plan m w (beginning plan k old new) (due_first plan names k old new)
   begins = begins_by plan is 4 capacities s kept names room board.registers board.busy numbers are w (board.idle w free) k rests fits new refl starts.0
@@ -46,7 +47,7 @@ module _ (plan : Ports) (is : IsPlan plan) (capacities : List ℕ) (s : SwitchSt
   has_room = room_by plan is 4 capacities s kept names room board.registers board.busy numbers are w (board.idle w free) k rests fits new refl starts.0
 
   some : old ≡ None → new ≡ None → ⊥
-  some a b = differs (a ∙ sym b)
+  some a b = differs (ap (option_map bare) a ∙ sym (placed_none (router_in (bare_rows m.board.applied) k) (good_of plan s.written k) b))
 
   abbrev begun : Names
   begun = begun_names plan names w k old new

@@ -1,8 +1,6 @@
 -- the registry stands for the machine when a key has left what it shared
-use Rattle.std.proofs.Common.{◌≡◌, ◌∷◌, ◌∙◌, inl, inr, ℕ, true, List, [], Option, Some, refl, sym, ap, subst}
-use Rattle.std.proofs.lemmas.Bool.{false≢true}
+use Rattle.std.proofs.Common.{◌≡◌, ◌∷◌, ◌∙◌, inl, inr, ℕ, true, List, [], Option, Some, refl, sym, ap, subst, None, ◌⊎◌}
 use Rattle.std.proofs.lemmas.Option.{same_Some}
-use Rattle.table_schema.specs.Names.{names_of}
 use Rattle.table_schema.specs.Plan.{IsPlan, Ports}
 use Rattle.table_schema.specs.declared.key.Key.{Key}
 use Rattle.sai_types.specs.declared.thing.Thing.{Thing}
@@ -10,9 +8,10 @@ use Rattle.sai_types.specs.Alike.{IsIn}
 use Rattle.sai_types.specs.Names.{name_of}
 use Rattle.row_layout.specs.Operations.{Change, Take, shared_going, take_all, uses_of}
 use Rattle.row_layout.specs.Rows.{Owner}
+use Rattle.row_layout.specs.Shared.{uses}
 use Rattle.switch_machine.specs.Changes.{changed_name}
 use Rattle.switch_machine.specs.Consistent.{IsConsistent, WasUsed}
-use Rattle.switch_machine.specs.Flights.{CountsAsUser, MachineFlight, HasChangeOf, IsFirm, IsOwnedBy, IsResting, IsShared, IsUser, Machine, goes_over}
+use Rattle.switch_machine.specs.Flights.{CountsAsUser, MachineFlight, HasChangeOf, IsFirm, IsOwnedBy, IsResting, IsShared, IsUser, Machine}
 use Rattle.switch_machine.specs.Steps.{Leaves, left, parted}
 use Rattle.switch_machine.proofs.Ordered.{ordered}
 use Rattle.switch_machine.proofs.Splits.{IsPut, IsSplit, New, Old, nat_split, put_at, put_by, put_off}
@@ -24,8 +23,10 @@ use Rattle.ref_counts.specs.declared.name.NameState.TheVariants as state
 use Rattle.ref_counts.specs.declared.pin.Pin.{Pin}
 use Rattle.ref_counts.specs.Registered.{Registered}
 use Rattle.ref_counts.specs.Registry.{state_in}
+use Rattle.orch_flight.specs.Needing.{row_names}
 use Rattle.registry_laws.specs.Known.{IsAllMade, IsKnownRow, IsKnownShared, IsPinOf, RowStands, SharedStands}
 use Rattle.registry_laws.proofs.Listing.{not_some}
+use Rattle.registry_laws.proofs.Going.{GoesOver, going_how}
 
 in_taken : (ts : List Thing) (t : Thing) → IsIn t ts → IsIn (Take (name_of t)) (take_all ts [])
 in_taken [] t h = elim h [ ]
@@ -124,7 +125,12 @@ module _ (plan : Ports) (is : IsPlan plan) (m : Machine) (sound : IsConsistent p
             let x = was_of v h at in
             let worker = sound.board.one v w x.0 f x.1 leaving.flying (x.2 ∙ e ∙ sym key) in
             let that = same_Some f x.0 (sym leaving.flying ∙ ap m.board.flights (sym worker) ∙ x.1) in
-            false≢true (sym (sound.board.goes w f leaving.flying ∙ ap (goes_over f.key (m.board.applied f.key)) (ap (λ (z : MachineFlight). z.new) one ∙ made.new)) ∙ ap (λ (z : MachineFlight). z.goes) that ∙ x.4 ∙ goes)
+            by (going_how f.key (m.board.applied f.key) f.new (sym (sound.board.goes w f leaving.flying) ∙ ap (λ (z : MachineFlight). z.goes) that ∙ x.4 ∙ goes))
+          where
+            -- an interface shares nothing
+            by : (f.new ≡ None) ⊎ GoesOver f.key (m.board.applied f.key) f.new → ⊥
+            by (inl none) = not_some made.row (sym none ∙ ap (λ (z : MachineFlight). z.new) one ∙ made.new)
+            by (inr over) = elim (subst (λ k. IsIn o (uses plan k was.row)) over.key_is was.used) [ ]
 
     row_stands : (p : Key) (st : NameState) → RowStands m p st → RowStands later p st
     row_stands p state.Absent (rests, none) = (resting_now p rests, none)
@@ -134,10 +140,10 @@ module _ (plan : Ports) (is : IsPlan plan) (m : Machine) (sound : IsConsistent p
     row_stands p (state.Retiring v) y = let x = now_of v y.flight y.flying in record { flight = x.0; flying = x.1; key = x.2 ∙ y.key; goes = x.4 ∙ y.goes; row = y.row; applied = y.applied }
 
     pin_now : (p : Key) (q : Pin) → IsPinOf m.board p q → IsPinOf later.board p q
-    pin_now p q (h, at, same, (r, new, i)) = let x = now_of q.worker h at in (x.0, x.1, x.2 ∙ same, (r, x.3 ∙ new, subst (λ z. IsIn p (names_of z r)) (sym x.2) i))
+    pin_now p q (h, at, same, (r, new, i)) = let x = now_of q.worker h at in (x.0, x.1, x.2 ∙ same, (r, x.3 ∙ new, subst (λ z. IsIn p (row_names z r)) (sym x.2) i))
 
     pin_was : (p : Key) (q : Pin) → IsPinOf later.board p q → IsPinOf m.board p q
-    pin_was p q (h, at, same, (r, new, i)) = let x = was_of q.worker h at in (x.0, x.1, x.2 ∙ same, (r, x.3 ∙ new, subst (λ z. IsIn p (names_of z r)) (sym x.2) i))
+    pin_was p q (h, at, same, (r, new, i)) = let x = was_of q.worker h at in (x.0, x.1, x.2 ∙ same, (r, x.3 ∙ new, subst (λ z. IsIn p (row_names z r)) (sym x.2) i))
 
     pub row_known : (p : Key) (x : Option Registered) → IsKnownRow m p x → IsKnownRow later p x
     row_known p x known = record {

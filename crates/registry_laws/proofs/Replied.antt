@@ -1,14 +1,14 @@
 -- what workers have under way stands for the machine when a change of a row's operation has taken effect
-use Rattle.std.proofs.Common.{◌≡◌, ◌⊎◌, ◌∷◌, ◌++◌, ◌∙◌, inl, inr, ℕ, List, [], Option, None, Some, refl, sym, ap, subst}
+use Rattle.std.proofs.Common.{◌≡◌, ◌⊎◌, ◌∷◌, ◌++◌, ◌∙◌, inl, inr, ℕ, List, [], Option, None, Some, refl, sym, ap, subst, Bool, false, not, ◌-◌, ap₂}
 use Rattle.std.proofs.lemmas.List.{append_assoc}
 use Rattle.std.proofs.lemmas.Option.{same_Some}
 use Rattle.swss_types.proofs.Proper.{mapped}
+use Rattle.swss_types.specs.declared.vrf.Vrf.{Vrf}
+use Rattle.swss_types.proofs.Routers.{vrf-refl}
 use Rattle.table_schema.specs.Plan.{IsPlan, Ports, port_named}
 use Rattle.table_schema.specs.declared.key.Key.{Key}
 use Rattle.table_schema.specs.declared.key.Key.TheVariants as key
 use Rattle.table_schema.specs.declared.row.PortRow.{PortRow}
-use Rattle.table_schema.specs.declared.row.Row.{Row}
-use Rattle.table_schema.specs.declared.row.Row.TheVariants as row
 use Rattle.sai_types.specs.declared.ids.Rid.{Rid}
 use Rattle.sai_types.specs.declared.ids.Vid.{Vid}
 use Rattle.sai_types.specs.declared.thing.Thing.{Thing}
@@ -16,32 +16,40 @@ use Rattle.sai_types.specs.declared.thing.Thing.TheVariants as thing
 use Rattle.sai_types.specs.Alike.{IsIn}
 use Rattle.sai_types.specs.Names.{name_of}
 use Rattle.sai_types.proofs.Membership.{in-right}
+use Rattle.sai_types.specs.declared.hop.Base.{Base}
+use Rattle.sai_types.specs.declared.kind.Kind.{Kind}
+use Rattle.sai_types.specs.Names as thing_name
 use Rattle.switch_model.specs.Things.{lane_of}
-use Rattle.row_layout.specs.Operations.{Change, Make, Set, Take, own_changes}
+use Rattle.switch_model.specs.Placed as row
+use Rattle.switch_model.specs.Placed.{Placed as Row}
+use Rattle.row_layout.specs.Operations.{Change, Make, Set, Take, own_changes, uses_of}
 use Rattle.row_layout.specs.Rows as owner
-use Rattle.row_layout.specs.Rows.{Owner, own_things}
+use Rattle.row_layout.specs.Rows.{Owner, own_things, interface_on}
 use Rattle.row_layout.proofs.Members.{from_in, only}
-use Rattle.switch_machine.specs.Changes.{IsSamePort, Resembles, after, changed_name}
+use Rattle.row_layout.specs.Shared.{shared_things}
+use Rattle.switch_machine.specs.Changes.{IsSamePort, Resembles, after, Disturbs}
 use Rattle.switch_machine.specs.Consistent.{IsConsistent}
 use Rattle.switch_machine.specs.Events.{Follows}
-use Rattle.switch_machine.specs.Flights.{Can, CanSet, Fits, MachineFlight, Machine, Runs, StandsIn, own_of, put}
+use Rattle.switch_machine.specs.Flights.{Can, CanSet, Fits, MachineFlight, Machine, Runs, StandsIn, own_of, put, IsOwnedBy, goes_over}
 use Rattle.switch_machine.specs.Operations.{built_first}
 use Rattle.switch_machine.specs.Steps.{Moves, moved}
 use Rattle.switch_machine.proofs.Moving.{fit_of, sound-moved}
 use Rattle.switch_machine.proofs.Running.{row_keys}
-use Rattle.switch_machine.proofs.Splits.{own_row_in, put_at}
-use Rattle.switch_machine.proofs.Tabled.{tabled}
+use Rattle.switch_machine.proofs.Splits.{own_row_in, put_at, use_row_in}
+use Rattle.switch_machine.proofs.Tabled.{tabled, are_shared_by}
+use Rattle.switch_machine.specs.Places.{makes}
 use Rattle.ref_counts.specs.Registry as registry
 use Rattle.ref_counts.specs.Room.{GivesBack, RoomState}
-use Rattle.orch_flight.specs.Operation.{Operation}
+use Rattle.orch_flight.specs.Operation.{Operation, is_between_for}
 use Rattle.orch_flight.specs.Starting.{built_here, taken_here}
 use Rattle.orch_flight.specs.Taking.{IsTook, names_after, names_by, now_after, operation_by, row_set}
+use Rattle.orch_flight.specs.Calling.{IsChangeFor}
 use Rattle.registry_laws.specs.Answering.{MakesRowLive}
 use Rattle.registry_laws.specs.Ending.{ended_names}
-use Rattle.registry_laws.specs.Flown.{Flown, due_for, flight_of, group_to_build, group_to_take}
+use Rattle.registry_laws.specs.Flown.{Flown, due_for, flight_of, group_to_build, group_to_take, still_there}
 use Rattle.registry_laws.specs.Flying.{HasStanding, IsBetween, IsFlown, IsRestFrom, IsRestOf, KnowsBoard, flown_as}
-use Rattle.registry_laws.specs.Registers.{OthersHaveDue, Registers}
-use Rattle.registry_laws.proofs.Answered.{registers_answered}
+use Rattle.registry_laws.specs.Registers.{OthersHaveDue, Registers, kept_beyond}
+use Rattle.registry_laws.proofs.Answered.{registers_answered, mapped_row}
 use Rattle.registry_laws.proofs.Aside.{IsAside, aside_moved, aside_then, board_with, board_without}
 use Rattle.registry_laws.proofs.Between.{due_moved}
 use Rattle.registry_laws.proofs.Fine.{AreFine, after_fine, fine_of}
@@ -51,6 +59,8 @@ use Rattle.registry_laws.proofs.Nexts.{next_now, sets_by}
 use Rattle.registry_laws.proofs.Rests.{AreInOrder, IsPort, none_of_group, rest_order}
 use Rattle.registry_laws.proofs.Settled.{Both, IsLater, both, not_built, settled, settled_by, settled_names, settled_names_by}
 use Rattle.registry_laws.proofs.Taking.{row_due}
+use Rattle.registry_laws.proofs.Going.{GoesOver, goes_by}
+use Rattle.registry_laws.proofs.Beyond.{after_beyond, place_if}
 
 -- ---- lists of changes
 
@@ -112,6 +122,15 @@ port_fits plan i (row.Port b) u like q is fits h resembles = fits ∙ ap Some (s
     lanes = by resembles.same
 port_fits plan i r u like q is fits h resembles = elim fits [ ]
 
+-- a row that is to be again does not go
+same_stays : (k : Key) (r : Row) → goes_over k (Some r) (Some r) ≡ false
+same_stays (key.Intf n) (row.Intf v) = ap not (vrf-refl v)
+same_stays k r = refl
+
+set_stays : (k : Key) (u : Thing) (new : Option Row) (r : Row) → new ≡ Some r → (IsPort u → (i : ℕ) × (key.Port i ≡ k)) → goes_over k (row_set u new) new ≡ false
+set_stays k (thing.Port q) new r e port = let i = port tt in ap₂ (λ z y. goes_over z (row_set (thing.Port q) new) y) (sym i.1) e
+set_stays k _ new r e port = ap₂ (goes_over k) e e ∙ same_stays k r
+
 module _ (plan : Ports) (is : IsPlan plan) (m : Machine) (sound : IsConsistent plan m) (p : Operation) (old : Option Row) (new_fits : (r : Row) → p.new ≡ Some r → Fits plan p.key r) (now_fits : (r : Row) → p.now ≡ Some r → Fits plan p.key r) (between : IsBetween old p.new p.now) where
   abbrev f : MachineFlight
   f = flight_of p
@@ -147,7 +166,7 @@ module _ (plan : Ports) (is : IsPlan plan) (m : Machine) (sound : IsConsistent p
   after_fits (Set u) can r e = set_fits u can r e
   after_fits (Take n) can r e = now_fits r e
 
-  pub after_between : (c : Change) (cs : List Change) → AreInOrder plan k old (c ∷ cs) → Can plan f (StandsIn m) c → IsBetween old p.new (now_after c p.now p.new)
+  pub after_between : (c : Change) (cs : List Change) → AreInOrder plan k old p.new (c ∷ cs) → Can plan f (StandsIn m) c → IsBetween old p.new (now_after c p.now p.new)
   after_between (Make t) cs order can = between
   after_between (Set u) cs order can = set_between u order.1.0 can
   after_between (Take n) cs order can = between
@@ -159,10 +178,10 @@ module _ (plan : Ports) (is : IsPlan plan) (m : Machine) (sound : IsConsistent p
   set_standing (thing.Port q) cs (inl port) t d i j = port_thing plan k (record { lanes = q.lanes; speed = q.speed; mtu = q.mtu; up = q.up }) t i
   set_standing _ cs (inl port) t d i j = elim port [ ]
 
-  pub after_standing : (c : Change) (cs : List Change) → AreInOrder plan k old (c ∷ cs) → ((t : Thing) (d : Change) → IsIn t (own_of plan k p.now) → IsIn d cs → changed_name d ≡ name_of t → StandsIn m t) → (t : Thing) (d : Change) → IsIn t (own_of plan k (now_after c p.now p.new)) → IsIn d cs → changed_name d ≡ name_of t → after c (StandsIn m t) t
+  pub after_standing : (c : Change) (cs : List Change) → AreInOrder plan k old p.new (c ∷ cs) → ((t : Thing) (d : Change) → IsIn t (own_of plan k p.now) → IsIn d cs → Disturbs d (name_of t) → StandsIn m t) → (t : Thing) (d : Change) → IsIn t (own_of plan k (now_after c p.now p.new)) → IsIn d cs → Disturbs d (name_of t) → after c (StandsIn m t) t
   after_standing (Make u) cs order stands t d i j e = inl (stands t d i j e)
   after_standing (Set u) cs order stands t d i j e = inr (set_standing u cs order.1.1 t d i j)
-  after_standing (Take n) cs order stands t d i j e = (stands t d i j e, λ same. order.1 d j (e ∙ same))
+  after_standing (Take n) cs order stands t d i j e = (stands t d i j e, λ same. order.1.0 d j (subst (Disturbs d) same e))
 
 -- ---- a change of a row's operation takes effect
 
@@ -185,8 +204,8 @@ module _ (plan : Ports) (is : IsPlan plan) (capacities : List ℕ) (m : Machine)
   new_fits : (r : Row) → p.new ≡ Some r → Fits plan p.key r
   new_fits = fit_of plan (tabled plan is) m sound w g moves.flying
 
-  in_order : AreInOrder plan p.key (m.board.applied p.key) (c ∷ cs)
-  in_order = subst (AreInOrder plan p.key (m.board.applied p.key)) due (rest_order plan is (m.board.applied p.key) p (λ r e. sound.board.fit p.key r (inl e)) new_fits y.rest)
+  in_order : AreInOrder plan p.key (m.board.applied p.key) p.new (c ∷ cs)
+  in_order = subst (AreInOrder plan p.key (m.board.applied p.key) p.new) due (rest_order plan is (m.board.applied p.key) p (λ r e. sound.board.fit p.key r (inl e)) new_fits y.rest)
 
   can : Can plan g (StandsIn m) c
   can = (subst (Runs plan g (StandsIn m)) moves.due (sound.runs w g moves.flying)).0
@@ -204,7 +223,7 @@ module _ (plan : Ports) (is : IsPlan plan) (capacities : List ℕ) (m : Machine)
   now = record { worker = p.worker; key = p.key; now = now_after c p.now p.new; new = p.new; due = cs; leaves = p.leaves; retires = p.retires }
 
   known' : Registers plan 4 capacities names' room later
-  known' = registers_answered plan is 4 capacities m sound names room board.registers board.rising w g cs stands c moves made (none_of_group plan p.key (m.board.applied p.key) (c ∷ cs) c in_order (inl refl)) (live_last plan (m.board.applied p.key) p c cs due y.rest)
+  known' = registers_answered plan is 4 capacities m sound names room board.registers board.rising w g cs stands c moves made (none_of_group plan p.key (m.board.applied p.key) p.new (c ∷ cs) c in_order (inl refl)) (live_last plan (m.board.applied p.key) p c cs due y.rest)
 
   sound' : IsConsistent plan later
   sound' = sound-moved plan (tabled plan is) m sound w g c cs stands moves
@@ -216,7 +235,7 @@ module _ (plan : Ports) (is : IsPlan plan) (capacities : List ℕ) (m : Machine)
   due_now = put_at w w cs m.due refl
 
   not_now : group_to_build plan names' now ≡ None
-  not_now = not_built plan names' later now (λ hops. (known'.names_known.shared (owner.Group hops) tt).stands) (λ hops t other. none_of_group plan p.key (m.board.applied p.key) cs t.0 in_order.2 (subst (IsIn t.0) due_now t.1) (hops, t.2))
+  not_now = not_built plan names' later now (λ hops. (known'.names_known.shared (owner.Group hops) tt).stands) (λ hops t other. none_of_group plan p.key (m.board.applied p.key) p.new cs t.0 in_order.2 (subst (IsIn t.0) due_now t.1) (hops, t.2))
 
   now_fits : (r : Row) → now.now ≡ Some r → Fits plan p.key r
   now_fits = after_fits plan is m sound p (m.board.applied p.key) new_fits y.over.now y.between c can
@@ -234,17 +253,85 @@ module _ (plan : Ports) (is : IsPlan plan) (capacities : List ℕ) (m : Machine)
   standing : HasStanding plan later now
   standing t d i j e = moves.back t (after_standing plan is m sound p (m.board.applied p.key) new_fits y.over.now y.between c cs in_order (λ u z a b same. y.standing u z a (subst (IsIn z) (sym due) (inr b)) same) t d i j e)
 
+  -- it goes as before
+  goes_same : g.goes ≡ goes_over p.key now.now p.new
+  goes_same = by c in_order can
+    where
+      port_key : (u : Thing) → IsOwnedBy plan (name_of u) (owner.OfRow p.key) → IsPort u → (i : ℕ) × (key.Port i ≡ p.key)
+      port_key (thing.Port q) own port = let i = mapped (λ z. owner.OfRow (key.Port z)) (port_named plan _) (owner.OfRow p.key) own in (i.0, row_keys (key.Port i.0) p.key i.2)
+      port_key u own port = elim port [ ]
+
+      by : (d : Change) → AreInOrder plan p.key (m.board.applied p.key) p.new (d ∷ cs) → Can plan g (StandsIn m) d → g.goes ≡ goes_over p.key (now_after d p.now p.new) p.new
+      by (Make t) order able = refl
+      by (Take n) order able = refl
+      by (Set u) order able =
+          let r = own_row_in plan p.key p.new able.like able.final in
+          sound.board.goes w g moves.flying ∙ order.1.2 ∙ sym (set_stays p.key u p.new r.0 r.1 (port_key u able.own))
+
+  now_flying : later.board.flights w ≡ Some (flight_of now)
+  now_flying = moves.flying ∙ ap (λ b. Some (told b)) goes_same
+    where
+      told : Bool → MachineFlight
+      told goes = record { key = p.key; new = p.new; leaves = p.leaves; retires = p.retires; goes = goes }
+
+  runs_now : Runs plan (flight_of now) (StandsIn later) cs
+  runs_now = subst (Runs plan (flight_of now) (StandsIn later)) due_now (sound'.runs w (flight_of now) now_flying)
+
+  next : IsChangeFor plan now cs
+  next = next_now plan is later sound' w now now_flying now_fits between cs in_order.2 runs_now
+
+  -- ---- the places that it keeps
+
+  kept_none : GoesOver p.key (m.board.applied p.key) p.new → (q : Kind) → makes q (m.reserved w) ≡ 0
+  kept_none x = y.reserves (row.Intf x.router_is) x.new_is (sound.board.goes w g moves.flying ∙ goes_by p.key (m.board.applied p.key) p.new x)
+
+  now_there : (m.board.applied p.key ≡ None → ⊥) → (a : Row) × (now.now ≡ Some a)
+  now_there some = by between
+    where
+      of : (o : Option Row) → m.board.applied p.key ≡ o → now.now ≡ m.board.applied p.key → (a : Row) × (now.now ≡ Some a)
+      of None e same = absurd (some e)
+      of (Some a) e same = (a, same ∙ e)
+
+      by : IsBetween (m.board.applied p.key) p.new now.now → (a : Row) × (now.now ≡ Some a)
+      by (inl same) = of (m.board.applied p.key) refl same
+      by (inr (a, r, n, old, new, at)) = (n, at)
+
+  now_stays : (a : Row) → now.now ≡ Some a → m.board.applied p.key ≡ None → ⊥
+  now_stays a at none = by between
+    where
+      by : IsBetween (m.board.applied p.key) p.new now.now → ⊥
+      by (inl same) = not_some a (sym none ∙ sym same ∙ at)
+      by (inr (b, r, n, old, new, _)) = not_some b (sym none ∙ old)
+
+  rif_own : (b : Base) (v : Vrf) (ds : List Change) → cs ≡ Make (thing.Rif b v) ∷ ds → p.key ≡ p.key → IsOwnedBy plan (thing_name.Rif b) (owner.OfRow p.key)
+  rif_own b v ds e _ = by (subst (IsChangeFor plan now) e next)
+    where
+      by : IsIn (thing.Rif b v) (own_of plan p.key p.new) ⊎ ((o : Owner) × IsIn o (uses_of plan p.key p.new) × IsIn (thing.Rif b v) (shared_things o)) → IsOwnedBy plan (thing_name.Rif b) (owner.OfRow p.key)
+      by (inl i) = let r = own_row_in plan p.key p.new (thing.Rif b v) i in (tabled plan is).own p.key r.0 (thing.Rif b v) (new_fits r.0 r.1) r.2
+      by (inr (o, i, h)) =
+          let r = use_row_in plan p.key p.new o i in
+          absurd (mapped_row plan key.Intf (interface_on plan b) o (are_shared_by plan is p.key r.0 o r.2) ((tabled plan is).shared o (thing.Rif b v) h))
+
+  beyond : (q : Kind) → kept_beyond later q w ≡ still_there q (Some (flown_as now None))
+  beyond q =
+      ap (λ l. makes q l - makes q (m.reserved w)) due_now
+      ∙ after_beyond plan p.key (m.board.applied p.key) p.new p.now now.now c cs in_order (λ s. makes s (m.reserved w))
+      (λ s. ap (λ l. makes s l - makes s (m.reserved w)) (sym moves.due) ∙ y.beyond s ∙ ap (λ l. place_if (is_between_for p.key p.now l) s) due)
+      kept_none
+      (λ live. (live_last plan (m.board.applied p.key) p c cs due y.rest live).0)
+      now_there now_stays (λ b v ds e. rif_own b v ds e refl) q
+
   now_flown : IsFlown plan names' later w (flown_as now None)
   now_flown = record {
-    flying = moves.flying;
+    flying = now_flying;
     worker = refl;
     due = due_now ∙ sym (row_due plan names' (flown_as now None) refl not_now takes);
     over = record {
       plans = is;
       now = now_fits;
       new = new_fits;
-      next = next_now plan is later sound' w now moves.flying now_fits between cs in_order.2 (subst (Runs plan g (StandsIn later)) due_now (sound'.runs w g moves.flying));
-      sets = sets_by plan now (StandsIn later) cs (subst (Runs plan g (StandsIn later)) due_now (sound'.runs w g moves.flying));
+      next = next;
+      sets = sets_by plan now (StandsIn later) cs runs_now;
     };
     some = y.some;
     rest = rest;
@@ -252,6 +339,8 @@ module _ (plan : Ports) (is : IsPlan plan) (capacities : List ℕ) (m : Machine)
     standing = standing;
     later = λ hops h. never_none hops (sym h ∙ not_now);
     group = λ h e. not_some h e;
+    beyond = beyond;
+    reserves = λ r e goes q. y.reserves r e (goes_same ∙ goes) q;
   }
 
   busy' : OthersHaveDue later w

@@ -1,5 +1,5 @@
 -- the kind that lacks room, and the places of all workers
-use Rattle.std.proofs.Common.{◌≡◌, ◌∷◌, ◌+◌, ◌-◌, ◌<◌, ◌≤◌, ◌∙◌, inl, inr, ℕ, zero, suc, nat_lt, ◌&&◌, Bool, true, false, List, [], Option, None, Some, refl, sym, ap, arith, if◌then◌else◌}
+use Rattle.std.proofs.Common.{◌≡◌, ◌∷◌, ◌+◌, ◌-◌, ◌<◌, ◌≤◌, ◌∙◌, inl, inr, ℕ, zero, suc, nat_lt, ◌&&◌, Bool, true, false, List, [], Option, None, Some, refl, sym, ap, arith, if◌then◌else◌, ap₂, max}
 use Rattle.std.proofs.lemmas.Bool.Decides.{nat_tests}
 use Rattle.std.proofs.lemmas.Option.{same_Some}
 use Rattle.sai_types.specs.declared.kind.Kind.{Kind}
@@ -13,7 +13,7 @@ use Rattle.switch_machine.specs.Places.{AreCovered, makes, places_kept, sum_belo
 use Rattle.sai_types.specs.Kinds.{all_kinds}
 use Rattle.ref_counts.specs.Room.{RoomState, first_lacking, lacking, lacks, number_of_kind, places_in_all}
 use Rattle.orch_flight.specs.Needing.{places_for}
-use Rattle.registry_laws.specs.Registers.{AreUsed, KnowsRoom}
+use Rattle.registry_laws.specs.Registers.{AreUsed, KnowsRoom, kept_beyond}
 use Rattle.registry_laws.proofs.Listing.{not_some, never_none}
 
 in_kinds : (k : Kind) → IsIn k all_kinds
@@ -114,31 +114,47 @@ sum_more n (suc d) f none =
     let same : sum_below (suc d + n) f ≡ sum_below (suc (d + n)) f = ap (λ z. sum_below z f) count in
     omega (arith, rest, last, step, same)
 
-module _ (workers : ℕ) (capacities : List ℕ) (room : RoomState) (m : Machine) (few : workers ≤ 4) (below : (w : ℕ) (f : MachineFlight) → m.board.flights w ≡ Some f → w < workers) (covered : AreCovered m) (known : KnowsRoom capacities room m) where
-  abbrev by_worker : Kind → ℕ → ℕ
-  by_worker k w = makes k (m.reserved w)
+max_parts : (r d : ℕ) → max r d ≡ r + (d - r)
+max_parts r d = omega arith
 
-  beyond : (k : Kind) (w : ℕ) → workers ≤ w → by_worker k w ≡ 0
+four_parts : (a b c d p q r s w x y z : ℕ) → a ≡ p + w → b ≡ q + x → c ≡ r + y → d ≡ s + z → p + q + r + s + (0 + w + x + y + z) ≡ 0 + a + b + c + d
+four_parts a b c d p q r s w x y z e f g h = omega (arith, e, f, g, h)
+
+module _ (workers : ℕ) (capacities : List ℕ) (room : RoomState) (m : Machine) (few : workers ≤ 4) (below : (w : ℕ) (f : MachineFlight) → m.board.flights w ≡ Some f → w < workers) (covered : AreCovered m) (known : KnowsRoom capacities room m) where
+  abbrev kept_by : Kind → ℕ → ℕ
+  kept_by k w = max (makes k (m.reserved w)) (makes k (m.due w))
+
+  beyond : (k : Kind) (w : ℕ) → workers ≤ w → kept_by k w ≡ 0
   beyond k w h = by (m.board.flights w) refl
     where
-      by : (o : Option MachineFlight) → m.board.flights w ≡ o → by_worker k w ≡ 0
-      by None e = ap (makes k) (covered.idle w e)
+      by : (o : Option MachineFlight) → m.board.flights w ≡ o → kept_by k w ≡ 0
+      by None e = ap₂ (λ a b. max (makes k a) (makes k b)) (covered.idle w e) (covered.due w e)
       by (Some f) e = let less = below w f e in absurd (omega (arith, h, less))
 
-  pub places-kept_all : (k : Kind) → places_in_all room.reserved k ≡ places_kept workers m k
+  -- the places that are reserved, and those that are kept beyond them
+  pub places-kept_all : (k : Kind) → places_in_all room.reserved k + sum_below 4 (kept_beyond m k) ≡ places_kept workers m k
   places-kept_all k =
       let a = known.places 0 k (omega arith) in
       let b = known.places 1 k (omega arith) in
       let c = known.places 2 k (omega arith) in
       let d = known.places 3 k (omega arith) in
-      let four : sum_below 4 (by_worker k) ≡ 0 + by_worker k 0 + by_worker k 1 + by_worker k 2 + by_worker k 3 = refl in
-      let more = sum_more workers (4 - workers) (by_worker k) (beyond k) in
+      let p = max_parts (makes k (m.reserved 0)) (makes k (m.due 0)) in
+      let q = max_parts (makes k (m.reserved 1)) (makes k (m.due 1)) in
+      let r = max_parts (makes k (m.reserved 2)) (makes k (m.due 2)) in
+      let s = max_parts (makes k (m.reserved 3)) (makes k (m.due 3)) in
+      let four : sum_below 4 (kept_by k) ≡ 0 + kept_by k 0 + kept_by k 1 + kept_by k 2 + kept_by k 3 = refl in
+      let more_four : sum_below 4 (kept_beyond m k) ≡ 0 + kept_beyond m k 0 + kept_beyond m k 1 + kept_beyond m k 2 + kept_beyond m k 3 = refl in
+      let more = sum_more workers (4 - workers) (kept_by k) (beyond k) in
       let count : 4 - workers + workers ≡ 4 = omega (arith, few) in
-      let same : sum_below (4 - workers + workers) (by_worker k) ≡ sum_below 4 (by_worker k) = ap (λ z. sum_below z (by_worker k)) count in
-      omega (arith, a, b, c, d, four, more, same)
+      let same : sum_below (4 - workers + workers) (kept_by k) ≡ sum_below 4 (kept_by k) = ap (λ z. sum_below z (kept_by k)) count in
+      let all : places_kept workers m k ≡ sum_below 4 (kept_by k) = sym more ∙ same in
+      ap (λ z. z + sum_below 4 (kept_beyond m k)) (ap₂ (λ x y. x + y) (ap₂ (λ x y. x + y) (ap₂ (λ x y. x + y) a b) c) d)
+      ∙ ap (λ z. makes k (m.reserved 0) + makes k (m.reserved 1) + makes k (m.reserved 2) + makes k (m.reserved 3) + z) more_four
+      ∙ four_parts (kept_by k 0) (kept_by k 1) (kept_by k 2) (kept_by k 3) (makes k (m.reserved 0)) (makes k (m.reserved 1)) (makes k (m.reserved 2)) (makes k (m.reserved 3)) (kept_beyond m k 0) (kept_beyond m k 1) (kept_beyond m k 2) (kept_beyond m k 3) p q r s
+      ∙ sym (all ∙ four)
 
   -- what the room's test says of the machine
-  module _ (objects : Objects) (numbers : List ℕ) (are : AreUsed objects numbers) (due : List Change) where
+  module _ (objects : Objects) (numbers : List ℕ) (are : AreUsed m objects numbers) (due : List Change) where
     pub lacks_true : (k : Kind) → lacks room (places_for due) numbers k ≡ true → (0 < makes k due) × (capacity_of capacities k < used objects k + places_kept workers m k + makes k due)
     lacks_true k h =
         let x = is_lacking (number_of_kind (places_for due) k) (capacity_of room.capacities k) (number_of_kind numbers k + places_in_all room.reserved k + number_of_kind (places_for due) k) h in

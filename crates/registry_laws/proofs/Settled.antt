@@ -22,6 +22,7 @@ use Rattle.switch_machine.proofs.Leaving.{sound-left}
 use Rattle.switch_machine.proofs.Running.{one_owner, shared_row}
 use Rattle.switch_machine.proofs.Splits.{put_at}
 use Rattle.switch_machine.proofs.Tabled.{are_shared_by, tabled}
+use Rattle.switch_machine.specs.Places.{makes}
 use Rattle.ref_counts.specs.declared.name.Name.TheVariants as name
 use Rattle.ref_counts.specs.Registry as registry
 use Rattle.ref_counts.specs.Registry.{state_of}
@@ -44,7 +45,9 @@ use Rattle.registry_laws.proofs.Fine.{AreFine, ended_fine, left_fine}
 use Rattle.registry_laws.proofs.Left.{parts}
 use Rattle.registry_laws.proofs.Listing.{never_none, not_some, some_of_due}
 use Rattle.registry_laws.proofs.Parting as parting
-use Rattle.registry_laws.proofs.Taking.{row_due}
+use Rattle.registry_laws.proofs.Taking.{row_due, disturbed_name}
+use Rattle.registry_laws.proofs.Beyond.{nothing_less, place_if, removing_apart, taken_here_taken, taken_makes}
+use Rattle.registry_laws.proofs.Rests.{take_taken}
 
 -- ---- an operation of which nothing is due leaves what it has to leave
 
@@ -137,7 +140,7 @@ module _ (plan : Ports) (is : IsPlan plan) (capacities : List ℕ) (m : Machine)
             record {
               follows = follows;
               stands = refl;
-              aside = record { flights = λ v apart. refl; due = λ v apart. refl; applied = λ v g apart at. refl; stands = λ v g u apart at own h. h };
+              aside = record { flights = λ v apart. refl; due = λ v apart. refl; reserved = λ v apart. refl; applied = λ v g apart at. refl; stands = λ v g u apart at own h. h };
               sound = sound;
               known = known;
               busy = due_follows plan m w m is sound busy follows;
@@ -212,9 +215,11 @@ module _ (plan : Ports) (is : IsPlan plan) (capacities : List ℕ) (m : Machine)
       some = y.some;
       rest = inr ([], refl);
       between = y.between;
-      standing = λ t c i j e. absurd (shared_row o p.key was.1 (one_owner plan (name_of t) o (owner.OfRow p.key) (subst (λ n. IsOwnedBy plan n o) e (taken_own plan o c j)) (now_owned plan is p y.over.now t i)));
+      standing = λ t c i j e. absurd (shared_row o p.key was.1 (one_owner plan (name_of t) o (owner.OfRow p.key) (subst (λ n. IsOwnedBy plan n o) (disturbed_name c (name_of t) e) (taken_own plan o c j)) (now_owned plan is p y.over.now t i)));
       later = λ hops h. never_none hops (sym h ∙ not_now);
       group = λ g h. not_some g h;
+      beyond = λ q. nothing_less (makes q (gone.due w)) (makes q (m.reserved w)) (ap (makes q) due_gone ∙ taken_makes q (take_all (shared_going o) []) (take_taken (shared_going o))) ∙ sym (ap (λ b. place_if b q) (removing_apart p.key p.now (taken_here (Some o)) (taken_here_taken (Some o))));
+      reserves = y.reserves;
     }
       where
         only : (hops : List WHop) → HasChangeOf plan (gone.due w) (owner.Group hops) → Some o ≡ Some (owner.Group hops)

@@ -1,17 +1,16 @@
 -- the registry stands for the machine when an operation has started
-use Rattle.std.proofs.Common.{◌≡◌, ◌⊎◌, ◌∷◌, ◌<◌, ◌∙◌, inl, inr, ℕ, List, [], Option, None, Some, option_map, refl, sym, ap, subst, arith}
+use Rattle.std.proofs.Common.{◌≡◌, ◌⊎◌, ◌∷◌, ◌<◌, ◌∙◌, inl, inr, ℕ, Bool, true, false, if◌then◌else◌, List, [], Option, None, Some, option_map, refl, sym, ap, ap₂, subst, arith}
 use Rattle.std.specs.List.Sorted.{IsStrictlySortedBy}
 use Rattle.std.specs.BTreeSet.{insert_key}
 use Rattle.table_schema.specs.Key.{key_cmp}
-use Rattle.table_schema.specs.Names.{names_of}
 use Rattle.table_schema.specs.Plan.{IsPlan, Ports}
 use Rattle.table_schema.specs.declared.key.Key.{Key}
-use Rattle.table_schema.specs.declared.row.Row.{Row}
 use Rattle.table_schema.proofs.Keys.{key_exact, key_total}
 use Rattle.sai_types.specs.declared.kind.Kind.{Kind}
 use Rattle.sai_types.specs.declared.thing.Thing.{Thing}
 use Rattle.sai_types.specs.Alike.{IsIn}
 use Rattle.sai_types.proofs.Rising.{in-back, in-insert, in-kept, rising-insert}
+use Rattle.switch_model.specs.Placed.{Placed as Row}
 use Rattle.row_layout.specs.Operations.{Change, Make, make_all, own_changes, uses_of}
 use Rattle.row_layout.specs.Rows as owner
 use Rattle.row_layout.specs.Rows.{Owner}
@@ -27,15 +26,16 @@ use Rattle.switch_machine.proofs.Sequence.{IsShort, uses_short}
 use Rattle.switch_machine.proofs.Splits.{IsSplit, key_split, nat_split, owner_split, put_at, put_off, use_row_in}
 use Rattle.switch_machine.proofs.Tabled.{are_shared_by, tabled}
 use Rattle.switch_machine.proofs.Freeing.{first_shared}
+use Rattle.switch_machine.proofs.Placing.{names_in}
 use Rattle.ref_counts.specs.declared.name.Name.TheVariants as name
 use Rattle.ref_counts.specs.declared.name.NameState.{NameState}
 use Rattle.ref_counts.specs.declared.name.NameState.TheVariants as state
 use Rattle.ref_counts.specs.declared.pin.Pin.{Pin}
 use Rattle.ref_counts.specs.Registered.{Registered, begun, begun_to_go, with_user}
 use Rattle.ref_counts.specs.Registry as registry
-use Rattle.ref_counts.specs.Registry.{registered_at, state_in, state_of, users_at}
+use Rattle.ref_counts.specs.Registry.{registered_at, state_in, state_of, users_at, changed}
 use Rattle.ref_counts.specs.Room.{Reserves, RoomState, places_by}
-use Rattle.orch_flight.specs.Needing.{name_for, places_for, to_build}
+use Rattle.orch_flight.specs.Needing.{name_for, places_for, row_names, to_build}
 use Rattle.orch_flight.specs.Starting.{begun_names, ids_for_row, with_building, with_own, with_pins}
 use Rattle.registry_laws.specs.Known.{IsKnownRow, IsKnownShared, IsPinOf, RowStands, SharedStands, pins_at}
 use Rattle.registry_laws.specs.Registers.{KnowsNames, KnowsRoom, Registers, beginning, due_first}
@@ -75,8 +75,8 @@ module _ (plan : Ports) (is : IsPlan plan) (m : Machine) (sound : IsConsistent p
   abbrev pub new_names : registry.Names
   new_names = begun_names plan names w k old n
 
-  no_self : (r : Row) (p : Key) → IsIn p (names_of k r) → p ≡ k → ⊥
-  no_self r p h = (ordered plan is).no_self k p r h
+  no_self : (r : Row) (p : Key) → IsIn p (row_names k r) → p ≡ k → ⊥
+  no_self r p h = (ordered plan is).no_self k p r (names_in k r p h)
 
   shared_use : (o : Owner) → IsIn o (uses_of plan k n) → IsShared o
   shared_use o h = let r = use_row_in plan k n o h in are_shared_by plan is k r.0 o r.2
@@ -101,8 +101,8 @@ module _ (plan : Ports) (is : IsPlan plan) (m : Machine) (sound : IsConsistent p
 
   -- ---- the names of rows
 
-  row_names : (p : Key) → registered_at new_names (name.Row p) ≡ registered_at owned_names (name.Row p)
-  row_names p =
+  row_same : (p : Key) → registered_at new_names (name.Row p) ≡ registered_at owned_names (name.Row p)
+  row_same p =
       used_off w k built_names (uses_of plan k n) (owner.OfRow p) (λ h. shared_row (owner.OfRow p) p (shared_use (owner.OfRow p) h) refl)
       ∙ building_off w k owned_names (to_build plan names k n) (owner.OfRow p) (λ e. shared_row (owner.OfRow p) p (shared_use (owner.OfRow p) (build_use (owner.OfRow p) e)) refl)
 
@@ -125,15 +125,15 @@ module _ (plan : Ports) (is : IsPlan plan) (m : Machine) (sound : IsConsistent p
 
       back : (q : Pin) → IsPinOf m.board p q ⊎ ((q ≡ record { worker = w; user = k }) × NamesNew w k n p) → IsIn q (pins_at c)
       back q (inl h) = pinned.kept q ((was.pins q).1 h)
-      back q (inr (e, (r, new, h))) = let firm = begins.named p r new h in subst (λ z. IsIn z (pins_at c)) (sym e) (pinned.more (r, new, h) (is_registered p a was.stands firm.row firm.applied))
+      back q (inr (e, (r, new, h))) = let firm = begins.named p r new (names_in k r p h) in subst (λ z. IsIn z (pins_at c)) (sym e) (pinned.more (r, new, h) (is_registered p a was.stands firm.row firm.applied))
 
-  -- nobody but the key's operation brings a row that names the key, where it had none or is to have none
-  no_pin : (q : Pin) → (old ≡ None) ⊎ (n ≡ None) → IsPinOf later.board k q → ⊥
+  -- nobody but the key's operation brings a row that names the key, where it had none or its applied row goes
+  no_pin : (q : Pin) → (old ≡ None) ⊎ (goes_over k old n ≡ true) → IsPinOf later.board k q → ⊥
   no_pin q gone h = by gone (begun_facts.pin_was plan is m sound w f due begins k q h)
     where
-      by : (old ≡ None) ⊎ (n ≡ None) → IsPinOf m.board k q ⊎ ((q ≡ record { worker = w; user = k }) × NamesNew w k n k) → ⊥
-      by (inl none) (inl (g, at, same, (r, new, h))) = let firm = sound.board.named g.key k r (inr (q.worker, g, at, refl, new)) h in not_some firm.row (sym none ∙ firm.applied)
-      by (inr none) (inl (g, at, same, (r, new, h))) = begins.unnamed (ap (goes_over k old) none) g.key r (inr (q.worker, g, at, refl, new)) h
+      by : (old ≡ None) ⊎ (goes_over k old n ≡ true) → IsPinOf m.board k q ⊎ ((q ≡ record { worker = w; user = k }) × NamesNew w k n k) → ⊥
+      by (inl none) (inl (g, at, same, (r, new, h))) = let firm = sound.board.named g.key k r (inr (q.worker, g, at, refl, new)) (names_in g.key r k h) in not_some firm.row (sym none ∙ firm.applied)
+      by (inr goes) (inl (g, at, same, (r, new, h))) = begins.unnamed goes g.key r (inr (q.worker, g, at, refl, new)) (names_in g.key r k h)
       by _ (inr (e, (r, new, h))) = no_self r k h refl
 
   pinned_own : registered_at pinned_names (name.Row k) ≡ registered_at names (name.Row k)
@@ -142,35 +142,44 @@ module _ (plan : Ports) (is : IsPlan plan) (m : Machine) (sound : IsConsistent p
   own_row : (x y : Option Row) → old ≡ x → n ≡ y → IsKnownRow later k (registered_at (with_own pinned_names w k x y) (name.Row k))
   own_row None y was new = subst (IsKnownRow later k) (sym (put_at_name pinned_names (owner.OfRow k) (begun w (ids_for_row k)))) (record {
     stands = ((f, begun_facts.here plan is m sound w f due begins, refl), was);
-    users = λ q. (λ h. elim h [ ], λ h. let firm = sound.board.named q k h.0 (inl h.1) h.2 in not_some firm.row (sym was ∙ firm.applied));
+    users = λ q. (λ h. elim h [ ], λ h. let firm = sound.board.named q k h.0 (inl h.1) (names_in q h.0 k h.2) in not_some firm.row (sym was ∙ firm.applied));
     pins = λ q. (λ h. elim h [ ], λ h. no_pin q (inl was) h);
     rising = none_rising;
   })
-  own_row (Some a) None was new = of (registered_at names (name.Row k)) refl (known.rows k)
+  own_row (Some a) y was new = by (goes_over k (Some a) y) refl
     where
-      of : (o : Option Registered) → registered_at names (name.Row k) ≡ o → IsKnownRow m k o → IsKnownRow later k (registered_at (with_own pinned_names w k (Some a) None) (name.Row k))
-      of None e x = not_some a (sym x.stands.1 ∙ was)
-      of (Some r) e x = subst (IsKnownRow later k) (sym (found_at pinned_names (owner.OfRow k) (begun_to_go w) ∙ ap (option_map (begun_to_go w)) (pinned_own ∙ e))) (record {
-        stands = record { flight = f; flying = begun_facts.here plan is m sound w f due begins; key = refl; goes = ap (goes_over k old) new; row = a; applied = was };
-        users = x.users;
-        pins = λ q. (λ h. elim h [ ], λ h. no_pin q (inr new) h);
-        rising = x.rising;
-      })
-  own_row (Some a) (Some r) was new =
-      let x = known.rows k in
-      subst (IsKnownRow later k) (sym pinned_own) (record {
-        stands = begun_facts.own_stays plan is m sound w f due begins a r (state_in (registered_at names (name.Row k))) was new x.stands;
-        users = x.users;
-        pins = λ q. (λ h. begun_facts.pin_now plan is m sound w f due begins k q ((x.pins q).0 h), λ h. back q (begun_facts.pin_was plan is m sound w f due begins k q h));
-        rising = x.rising;
-      })
-    where
+      told : goes_over k old n ≡ goes_over k (Some a) y
+      told = ap₂ (goes_over k) was new
+
       back : (q : Pin) → IsPinOf m.board k q ⊎ ((q ≡ record { worker = w; user = k }) × NamesNew w k n k) → IsIn q (pins_at (registered_at names (name.Row k)))
       back q (inl h) = ((known.rows k).pins q).1 h
       back q (inr (e, (r, new, h))) = absurd (no_self r k h refl)
 
+      gone : goes_over k (Some a) y ≡ true → (o : Option Registered) → registered_at names (name.Row k) ≡ o → IsKnownRow m k o → IsKnownRow later k (registered_at (changed pinned_names (name.Row k) (begun_to_go w)) (name.Row k))
+      gone goes None e x = not_some a (sym x.stands.1 ∙ was)
+      gone goes (Some r) e x = subst (IsKnownRow later k) (sym (found_at pinned_names (owner.OfRow k) (begun_to_go w) ∙ ap (option_map (begun_to_go w)) (pinned_own ∙ e))) (record {
+        stands = record { flight = f; flying = begun_facts.here plan is m sound w f due begins; key = refl; goes = told ∙ goes; row = a; applied = was };
+        users = x.users;
+        pins = λ q. (λ h. elim h [ ], λ h. no_pin q (inr (told ∙ goes)) h);
+        rising = x.rising;
+      })
+
+      stays : goes_over k (Some a) y ≡ false → IsKnownRow later k (registered_at pinned_names (name.Row k))
+      stays none =
+          let x = known.rows k in
+          subst (IsKnownRow later k) (sym pinned_own) (record {
+            stands = begun_facts.own_stays plan is m sound w f due begins a (state_in (registered_at names (name.Row k))) was (told ∙ none) x.stands;
+            users = x.users;
+            pins = λ q. (λ h. begun_facts.pin_now plan is m sound w f due begins k q ((x.pins q).0 h), λ h. back q (begun_facts.pin_was plan is m sound w f due begins k q h));
+            rising = x.rising;
+          })
+
+      by : (b : Bool) → goes_over k (Some a) y ≡ b → IsKnownRow later k (registered_at (if b then changed pinned_names (name.Row k) (begun_to_go w) else pinned_names) (name.Row k))
+      by true e = gone e (registered_at names (name.Row k)) refl (known.rows k)
+      by false e = stays e
+
   pub rows_now : (p : Key) → IsKnownRow later p (registered_at new_names (name.Row p))
-  rows_now p = subst (IsKnownRow later p) (sym (row_names p)) (by (key_split k p))
+  rows_now p = subst (IsKnownRow later p) (sym (row_same p)) (by (key_split k p))
     where
       by : IsSplit k p → IsKnownRow later p (registered_at owned_names (name.Row p))
       by (inl same) = subst (λ z. IsKnownRow later z (registered_at owned_names (name.Row z))) same (own_row old n refl refl)

@@ -4,7 +4,6 @@ use Rattle.std.proofs.lemmas.Option.{same_Some}
 use Rattle.table_schema.specs.Plan.{IsPlan, Ports, port_named}
 use Rattle.table_schema.specs.declared.key.Key.{Key}
 use Rattle.table_schema.specs.declared.key.Key.TheVariants as key
-use Rattle.table_schema.specs.declared.row.Row.{Row}
 use Rattle.swss_types.specs.declared.interface.IfName.{IfName}
 use Rattle.swss_types.specs.declared.interface.IfName.TheVariants as on
 use Rattle.swss_types.proofs.Proper.{mapped}
@@ -18,6 +17,8 @@ use Rattle.sai_types.specs.Names as thing_name
 use Rattle.sai_types.specs.Names.{name_of}
 use Rattle.sai_types.proofs.Membership.{in-either, in-left, in-right}
 use Rattle.chip_layout.specs.Layout.{has_number}
+use Rattle.switch_model.specs.Placed.{Placed as Row}
+use Rattle.switch_model.specs.Placed as row
 use Rattle.row_layout.specs.Operations.{Change, Make, Set, Take, make_all, uses_of}
 use Rattle.row_layout.specs.Rows as owner
 use Rattle.row_layout.specs.Rows.{Owner, interface_on, owner_of}
@@ -37,22 +38,25 @@ use Rattle.ref_counts.specs.declared.name.Name.TheVariants as name
 use Rattle.ref_counts.specs.declared.name.NameState.{NameState}
 use Rattle.ref_counts.specs.declared.name.NameState.TheVariants as state
 use Rattle.ref_counts.specs.Registry as registry
-use Rattle.ref_counts.specs.Registry.{places_of, state_of}
+use Rattle.ref_counts.specs.Registry.{places_of, state_of, ids_of}
 use Rattle.ref_counts.specs.Room.{RoomState}
 use Rattle.orch_flight.specs.Calling.{things_held, things_retired}
 use Rattle.orch_flight.specs.Grouping.{GroupOperation, MayTakeGroup, first_group_due}
 use Rattle.orch_flight.specs.Needing.{name_for}
 use Rattle.orch_flight.specs.Operation.{Operation}
 use Rattle.orch_flight.specs.Starting.{ids_for, ids_for_row}
-use Rattle.orch_flight.specs.Taking.{MayTake, built_name, to_list}
+use Rattle.orch_flight.specs.Taking.{MayTake, built_name, to_list, MayBeLive}
+use Rattle.orch_flight.specs.Sharing.{IsOfShared}
 use Rattle.registry_laws.specs.Flown.{Flown, due_for, flight_of, group_in, group_to_build, group_to_take, left_of_group, whole_group}
-use Rattle.registry_laws.specs.Flying.{IsFlown, IsGroupFlown, KnowsBoard}
+use Rattle.registry_laws.specs.Flying.{IsFlown, IsGroupFlown, KnowsBoard, IsBetween}
 use Rattle.registry_laws.specs.Known.{RowStands, SharedStands}
 use Rattle.registry_laws.proofs.Answered.{IsRowName, mapped_row, some_row}
 use Rattle.registry_laws.proofs.Aside.{building_is, built_state, retiring_is}
 use Rattle.registry_laws.proofs.Grouped.{taken_group}
 use Rattle.registry_laws.proofs.Listing.{not_some}
 use Rattle.registry_laws.proofs.Rests.{AreInOrder, rest_order}
+use Rattle.registry_laws.specs.Identified.{HasWholeInterfaces, is_live_or_going}
+use Rattle.registry_laws.proofs.Going.{GoesOver, goes_by}
 
 -- ---- what is due for a worker
 
@@ -79,7 +83,7 @@ made_in [] c h = elim h [ ]
 made_in (t ∷ ts) c (inl e) = (t, inl refl, e)
 made_in (t ∷ ts) c (inr h) = let x = made_in ts c h in (x.0, inr x.1, x.2)
 
-disturbed_name : (c : Change) (n : thing_name.ThingName) → Disturbs c n → changed_name c ≡ n
+pub disturbed_name : (c : Change) (n : thing_name.ThingName) → Disturbs c n → changed_name c ≡ n
 disturbed_name (Make t) n h = elim h [ ]
 disturbed_name (Set u) n h = h
 disturbed_name (Take m) n h = h
@@ -117,6 +121,19 @@ module _ (plan : Ports) (k : Key) where
   one_id (thing.GroupMember hops hop) own b = not_some (name.Row k) b
   one_id (thing.Route v prefix goal) own b = not_some (name.Row k) b
 
+-- what is shared is made live by the worker that builds it, and so is a row's name where no row is applied
+shared_live : (names : registry.Names) (w : ℕ) (n : Name) (now : Option Row) (ids : List Vid) → IsOfShared n → (state_of names n ≡ state.Building w) × (length ids ≤ places_of names n) → MayBeLive names w n now ids
+shared_live names w (name.Row k) now ids s h = elim s [ ]
+shared_live names w n now ids s h = h
+
+new_live : (names : registry.Names) (w : ℕ) (n : Name) (ids : List Vid) → (state_of names n ≡ state.Building w) × (length ids ≤ places_of names n) → MayBeLive names w n None ids
+new_live names w (name.Row (key.Intf i)) ids h = h
+new_live names w n ids h = h
+
+one_made : (made : Option Vid) (b : Bool) → is_some made ≡ b → b ≡ true → length (to_list made) ≡ 1
+one_made None b e h = absurd cc
+one_made (Some v) b e h = refl
+
 -- ---- what a worker has under way
 
 module _ (plan : Ports) (is : IsPlan plan) (capacities : List ℕ) (names : registry.Names) (room : RoomState) (flown : ℕ → Option Flown) (m : Machine) (sound : IsConsistent plan m) (board : KnowsBoard plan capacities names room flown m) (w : ℕ) (x : Flown) (at : flown w ≡ Some x) where
@@ -141,7 +158,7 @@ module _ (plan : Ports) (is : IsPlan plan) (capacities : List ℕ) (names : regi
   its_worker : (st : NameState) → st ≡ state.Building w → st ≡ state.Building f.worker
   its_worker st e = e ∙ ap state.Building (sym y.worker)
 
-  in_order : AreInOrder plan k (m.board.applied k) f.due
+  in_order : AreInOrder plan k (m.board.applied k) f.new f.due
   in_order = rest_order plan is (m.board.applied k) f (λ r e. sound.board.fit k r (inl e)) fits y.rest
 
   -- what it has to leave is live
@@ -172,7 +189,7 @@ module _ (plan : Ports) (is : IsPlan plan) (capacities : List ℕ) (names : regi
 
   -- ---- of a row
 
-  module _ (none : x.group ≡ None) (builds : group_to_build plan names x.operation ≡ None) (takes : group_to_take x.operation ≡ None) where
+  module _ (interfaces : HasWholeInterfaces names) (none : x.group ≡ None) (builds : group_to_build plan names x.operation ≡ None) (takes : group_to_take x.operation ≡ None) where
     due_is : m.due w ≡ f.due
     due_is = y.due ∙ row_due plan names x none builds takes
 
@@ -191,25 +208,20 @@ module _ (plan : Ports) (is : IsPlan plan) (capacities : List ℕ) (names : regi
           building_is plan is m sound o w g (state_of names (name_for o)) (shared_state o shared) y.flying (touched o own)
           (λ retires. sound.board.unused w g k o y.flying retires (inl (w, g, y.flying, refl, inl (shared_of plan (tabled plan is) g fits t o own shared can.final).0)))
 
-      abbrev Builds : Option Vid → Name → Type 0
-      Builds made n = (state_of names n ≡ state.Building f.worker) × (length (to_list made) ≤ places_of names n)
-
       places : (made : Option Vid) (o : Owner) → state_of names (name_for o) ≡ state.Building w → is_some made ≡ has_number t → (has_number t ≡ true → 1 ≤ ids_for o) → length (to_list made) ≤ places_of names (name_for o)
       places made o st e one = subst (λ z. length (to_list made) ≤ z) (sym (board.placed o w st)) (made_fits made (has_number t) (ids_for o) e one)
 
-      shared_builds : (made : Option Vid) (o : Owner) → IsShared o → IsOwnedBy plan (name_of t) o → is_some made ≡ has_number t → (has_number t ≡ true → 1 ≤ ids_for o) → Builds made (name_for o)
-      shared_builds made o shared own e one = let st = building o shared own in (its_worker (state_of names (name_for o)) st, places made o st e one)
+      shared_builds : (made : Option Vid) (o : Owner) → IsShared o → IsOfShared (name_for o) → IsOwnedBy plan (name_of t) o → is_some made ≡ has_number t → (has_number t ≡ true → 1 ≤ ids_for o) → MayBeLive names f.worker (name_for o) f.now (to_list made)
+      shared_builds made o shared named own e one = let st = building o shared own in shared_live names f.worker (name_for o) f.now (to_list made) named (its_worker (state_of names (name_for o)) st, places made o st e one)
 
       row_own : IsRowName plan (name_of t) → IsFinal plan g t → IsOwnedBy plan (name_of t) (owner.OfRow k)
       row_own row (inl h) = let r = own_row_in plan g.key g.new t h in (tabled plan is).own g.key r.0 t (fits r.0 r.1) r.2
       row_own row (inr (o, i, h)) = let r = use_row_in plan g.key g.new o i in absurd (row o (are_shared_by plan is g.key r.0 o r.2) ((tabled plan is).shared o t h))
 
-      row_building : IsOwnedBy plan (name_of t) (owner.OfRow k) → state_of names (name.Row k) ≡ state.Building w
-      row_building own = by (state_of names (name.Row k)) (board.registers.names_known.rows k).stands
+      -- the row's name is being built where no row is applied
+      row_building : m.board.applied k ≡ None → state_of names (name.Row k) ≡ state.Building w
+      row_building absent = by (state_of names (name.Row k)) (board.registers.names_known.rows k).stands
         where
-          absent : m.board.applied k ≡ None
-          absent = (subst (AreInOrder plan k (m.board.applied k)) due in_order).1 own
-
           by : (st : NameState) → RowStands m k st → st ≡ state.Building w
           by state.Absent h = absurd (h.0 w g y.flying refl)
           by (state.Building v) h = ap state.Building (sound.board.one v w h.0.0 g h.0.1 y.flying h.0.2)
@@ -217,23 +229,64 @@ module _ (plan : Ports) (is : IsPlan plan) (capacities : List ℕ) (names : regi
           by state.Live (inr made) = absurd (board.busy made.worker made.flight made.flying made.done)
           by (state.Retiring v) h = not_some h.row (sym absent ∙ h.applied)
 
-      row_builds : (made : Option Vid) → IsRowName plan (name_of t) → is_some made ≡ has_number t → built_name k t ≡ Some (name.Row k) → Builds made (name.Row k)
-      row_builds made row e b =
-          let own = row_own row can.final in
-          let st = row_building own in
-          let one = one_id plan k t own b in
-          (its_worker (state_of names (name.Row k)) st, places made (owner.OfRow k) st e (λ _. omega (arith, one)))
+      -- and was taken away where the applied one goes over
+      row_retiring : GoesOver k (m.board.applied k) f.new → state_of names (name.Row k) ≡ state.Retiring w
+      row_retiring over = by (state_of names (name.Row k)) (board.registers.names_known.rows k).stands
+        where
+          goes : g.goes ≡ true
+          goes = sound.board.goes w g y.flying ∙ goes_by k (m.board.applied k) f.new over
 
-    builds_by : (t : Thing) (rest : List Change) (due : f.due ≡ Make t ∷ rest) (made : Option Vid) → is_some made ≡ has_number t → (n : Name) → built_name k t ≡ Some n → (state_of names n ≡ state.Building f.worker) × (length (to_list made) ≤ places_of names n)
-    builds_by (thing.Port p) rest due made e n h = subst (λ z. (state_of names z ≡ state.Building f.worker) × (length (to_list made) ≤ places_of names z)) (same_Some (name.Row k) n h) (row_builds (thing.Port p) rest due made (λ o shared i. mapped_row plan key.Port (port_named plan _) o shared i) e refl)
-    builds_by (thing.Vlan v) rest due made e n h = subst (λ z. (state_of names z ≡ state.Building f.worker) × (length (to_list made) ≤ places_of names z)) (same_Some (name.Row k) n h) (row_builds (thing.Vlan v) rest due made (λ o shared i. some_row plan (key.Vlan v) o shared i) e refl)
-    builds_by (thing.VirtualRouter label) rest due made e n h = subst (λ z. (state_of names z ≡ state.Building f.worker) × (length (to_list made) ≤ places_of names z)) (same_Some (name.Row k) n h) (row_builds (thing.VirtualRouter label) rest due made (λ o shared i. some_row plan (key.Vrf label) o shared i) e refl)
-    builds_by (thing.BridgePort lane) rest due made e n h = subst (λ z. (state_of names z ≡ state.Building f.worker) × (length (to_list made) ≤ places_of names z)) (same_Some (name.BridgePort lane) n h) (shared_builds (thing.BridgePort lane) rest due made (owner.Bridge lane) tt refl e (λ _. omega arith))
-    builds_by (thing.VlanMember v lane z) rest due made e n h = subst (λ z. (state_of names z ≡ state.Building f.worker) × (length (to_list made) ≤ places_of names z)) (same_Some (name.Row k) n h) (row_builds (thing.VlanMember v lane z) rest due made (λ o shared i. mapped_row plan (key.Member v) (port_named plan lane) o shared i) e refl)
-    builds_by (thing.Rif b v) rest due made e n h = subst (λ z. (state_of names z ≡ state.Building f.worker) × (length (to_list made) ≤ places_of names z)) (same_Some (name.Row k) n h) (row_builds (thing.Rif b v) rest due made (λ o shared i. mapped_row plan key.Intf (interface_on plan b) o shared i) e refl)
-    builds_by (thing.Own v ip) rest due made e n h = subst (λ z. (state_of names z ≡ state.Building f.worker) × (length (to_list made) ≤ places_of names z)) (same_Some (name.Own v ip) n h) (shared_builds (thing.Own v ip) rest due made (owner.Own v ip) tt refl e (λ no. absurd cc))
+          by : (st : NameState) → RowStands m k st → st ≡ state.Retiring w
+          by state.Absent h = absurd (h.0 w g y.flying refl)
+          by (state.Building v) h = not_some (row.Intf over.router_was) (sym h.1 ∙ over.old_is)
+          by state.Live (inl firm) = absurd (firm.stays w g y.flying refl goes)
+          by state.Live (inr made) = absurd (board.busy made.worker made.flight made.flying made.done)
+          by (state.Retiring v) h = ap state.Retiring (sound.board.one v w h.flight g h.flying y.flying h.key)
+
+      now_none : m.board.applied k ≡ None → f.now ≡ None
+      now_none absent = by y.between
+        where
+          by : IsBetween (m.board.applied k) f.new f.now → f.now ≡ None
+          by (inl same) = same ∙ absent
+          by (inr (a, r, n, old, new, now)) = not_some a (sym absent ∙ old)
+
+      now_some : GoesOver k (m.board.applied k) f.new → (a : Row) × (f.now ≡ Some a)
+      now_some over = by y.between
+        where
+          by : IsBetween (m.board.applied k) f.new f.now → (a : Row) × (f.now ≡ Some a)
+          by (inl same) = (row.Intf over.router_was, same ∙ over.old_is)
+          by (inr (a, r, n, old, new, now)) = (n, now)
+
+      row_builds : (made : Option Vid) → IsRowName plan (name_of t) → is_some made ≡ has_number t → has_number t ≡ true → built_name k t ≡ Some (name.Row k) → MayBeLive names f.worker (name.Row k) f.now (to_list made)
+      row_builds made row e number b = by ((subst (AreInOrder plan k (m.board.applied k) f.new) due in_order).1 own)
+        where
+          own : IsOwnedBy plan (name_of t) (owner.OfRow k)
+          own = row_own row can.final
+
+          one : ids_for_row k ≡ 1
+          one = one_id plan k t own b
+
+          by : (m.board.applied k ≡ None) ⊎ GoesOver k (m.board.applied k) f.new → MayBeLive names f.worker (name.Row k) f.now (to_list made)
+          by (inl absent) =
+              let st = row_building absent in
+              subst (λ z. MayBeLive names f.worker (name.Row k) z (to_list made)) (sym (now_none absent)) (new_live names f.worker (name.Row k) (to_list made) (its_worker (state_of names (name.Row k)) st, places made (owner.OfRow k) st e (λ _. omega (arith, one))))
+          by (inr over) =
+              let st = row_retiring over in
+              let n = now_some over in
+              let there : is_live_or_going (state_of names (name.Row (key.Intf over.on))) ≡ true = ap (λ z. is_live_or_going (state_of names (name.Row z))) (sym over.key_is) ∙ ap is_live_or_going st in
+              let ids : length (ids_of names (name.Row k)) ≡ 1 = ap (λ z. length (ids_of names (name.Row z))) over.key_is ∙ interfaces.each over.on there ∙ ap ids_for_row (sym over.key_is) ∙ one in
+              subst (λ z. MayBeLive names f.worker (name.Row k) z (to_list made)) (sym n.1) (subst (λ z. MayBeLive names f.worker (name.Row z) (Some n.0) (to_list made)) (sym over.key_is) (ap (λ z. state_of names (name.Row z)) (sym over.key_is) ∙ st ∙ ap state.Retiring (sym y.worker), one_made made (has_number t) e number ∙ sym (ap (λ z. length (ids_of names (name.Row z))) (sym over.key_is) ∙ ids)))
+
+    builds_by : (t : Thing) (rest : List Change) (due : f.due ≡ Make t ∷ rest) (made : Option Vid) → is_some made ≡ has_number t → (n : Name) → built_name k t ≡ Some n → MayBeLive names f.worker n f.now (to_list made)
+    builds_by (thing.Port p) rest due made e n h = subst (λ z. MayBeLive names f.worker z f.now (to_list made)) (same_Some (name.Row k) n h) (row_builds (thing.Port p) rest due made (λ o shared i. mapped_row plan key.Port (port_named plan _) o shared i) e refl refl)
+    builds_by (thing.Vlan v) rest due made e n h = subst (λ z. MayBeLive names f.worker z f.now (to_list made)) (same_Some (name.Row k) n h) (row_builds (thing.Vlan v) rest due made (λ o shared i. some_row plan (key.Vlan v) o shared i) e refl refl)
+    builds_by (thing.VirtualRouter label) rest due made e n h = subst (λ z. MayBeLive names f.worker z f.now (to_list made)) (same_Some (name.Row k) n h) (row_builds (thing.VirtualRouter label) rest due made (λ o shared i. some_row plan (key.Vrf label) o shared i) e refl refl)
+    builds_by (thing.BridgePort lane) rest due made e n h = subst (λ z. MayBeLive names f.worker z f.now (to_list made)) (same_Some (name.BridgePort lane) n h) (shared_builds (thing.BridgePort lane) rest due made (owner.Bridge lane) tt tt refl e (λ _. omega arith))
+    builds_by (thing.VlanMember v lane z) rest due made e n h = subst (λ z. MayBeLive names f.worker z f.now (to_list made)) (same_Some (name.Row k) n h) (row_builds (thing.VlanMember v lane z) rest due made (λ o shared i. mapped_row plan (key.Member v) (port_named plan lane) o shared i) e refl refl)
+    builds_by (thing.Rif b v) rest due made e n h = subst (λ z. MayBeLive names f.worker z f.now (to_list made)) (same_Some (name.Row k) n h) (row_builds (thing.Rif b v) rest due made (λ o shared i. mapped_row plan key.Intf (interface_on plan b) o shared i) e refl refl)
+    builds_by (thing.Own v ip) rest due made e n h = subst (λ z. MayBeLive names f.worker z f.now (to_list made)) (same_Some (name.Own v ip) n h) (shared_builds (thing.Own v ip) rest due made (owner.Own v ip) tt tt refl e (λ no. absurd cc))
     builds_by (thing.Neighbor hop mac) rest due made e n h = not_some n h
-    builds_by (thing.NextHop hop) rest due made e n h = subst (λ z. (state_of names z ≡ state.Building f.worker) × (length (to_list made) ≤ places_of names z)) (same_Some (name.Row k) n h) (row_builds (thing.NextHop hop) rest due made (λ o shared i. mapped_row plan (λ n. key.Neigh n hop.ip) (interface_on plan hop.on) o shared i) e refl)
+    builds_by (thing.NextHop hop) rest due made e n h = subst (λ z. MayBeLive names f.worker z f.now (to_list made)) (same_Some (name.Row k) n h) (row_builds (thing.NextHop hop) rest due made (λ o shared i. mapped_row plan (λ n. key.Neigh n hop.ip) (interface_on plan hop.on) o shared i) e refl refl)
     builds_by (thing.Group hops) rest due made e n h = not_some n h
     builds_by (thing.GroupMember hops hop) rest due made e n h = not_some n h
     builds_by (thing.Route v prefix goal) rest due made e n h = not_some n h
@@ -270,7 +323,7 @@ module _ (plan : Ports) (is : IsPlan plan) (capacities : List ℕ) (names : regi
       retired (Some o) e j = taken_stands o c rest e (y.due ∙ row_due plan names x none builds takes ∙ due) t j h
 
       by : IsIn t (own_of plan k f.now) ⊎ IsIn t (things_retired f.retires) → StandsIn m t
-      by (inl j) = y.standing t c j (subst (IsIn c) (sym due) (inl refl)) (disturbed_name c (name_of t) h)
+      by (inl j) = y.standing t c j (subst (IsIn c) (sym due) (inl refl)) h
       by (inr j) = retired f.retires refl j
 
   -- ---- of a group

@@ -1,16 +1,20 @@
 -- What a worker has under way, and what is due for it. Own.
-use Rattle.std.specs.Prelude.{◌==◌, ◌++◌, ℕ, Bool, true, false, List, [], ◌∷◌, Option, Some, None, is_some, not, if◌then◌else◌}
+use Rattle.std.specs.Prelude.{◌==◌, ◌&&◌, ◌++◌, ℕ, Bool, true, false, List, [], ◌∷◌, Option, Some, None, if◌then◌else◌}
 use Rattle.table_schema.specs.Plan.{Ports}
+use Rattle.sai_types.specs.declared.kind.Kind.{Kind}
+use Rattle.sai_types.specs.declared.kind.Kind.TheVariants as kind
 use Rattle.sai_types.specs.declared.weight.WHop.{WHop}
+use Rattle.sai_types.specs.Objects.{level}
 use Rattle.row_layout.specs.Operations.{Change, uses_of}
 use Rattle.row_layout.specs.Rows.{Group, Owner}
-use Rattle.switch_machine.specs.Flights.{MachineFlight}
+use Rattle.switch_machine.specs.Flights.{MachineFlight, goes_over}
+use Rattle.switch_machine.specs.Places.{sum_below}
 use Rattle.ref_counts.specs.declared.name.Name.TheVariants as name
 use Rattle.ref_counts.specs.declared.name.NameState.{NameState}
 use Rattle.ref_counts.specs.declared.name.NameState.TheVariants as state
 use Rattle.ref_counts.specs.Registry.{Names, state_of}
 use Rattle.orch_flight.specs.Grouping.{GroupOperation, first_group_due}
-use Rattle.orch_flight.specs.Operation.{Operation}
+use Rattle.orch_flight.specs.Operation.{Operation, is_between}
 use Rattle.orch_flight.specs.Taking.{to_list}
 
 -- the operation of a row, and that of a group, while one is built before the row's or taken away after it
@@ -18,9 +22,9 @@ pub record Flown : Type 0 where
   pub operation : Operation
   pub group : Option GroupOperation
 
--- an operation, as the machine has it: its applied row goes where there is no new one
+-- an operation, as the machine has it: its applied row goes where there is no new one, or an interface in another router
 abbrev pub flight_of : Operation → MachineFlight
-flight_of f = record { key = f.key; new = f.new; leaves = f.leaves; retires = f.retires; goes = not (is_some f.new) }
+flight_of f = record { key = f.key; new = f.new; leaves = f.leaves; retires = f.retires; goes = goes_over f.key f.now f.new }
 
 -- the group among what is shared
 abbrev pub group_in : List Owner → Option (List WHop)
@@ -59,3 +63,14 @@ group_changes plan names x = left_of_group x.group (whole_group (group_to_build 
 -- all that is due for the worker: a group is built before the row's own changes, and goes after them
 abbrev pub due_for : Ports → Names → Flown → List Change
 due_for plan names x = group_changes plan names x ++ x.operation.due
+
+-- ---- places
+
+-- what counts as still there though it is not: the router interface of an operation that stands between its removal and its creation
+abbrev pub still_there : Kind → Option Flown → ℕ
+still_there k None = 0
+still_there k (Some x) = if is_between x.operation && (level kind.Rif == level k) then 1 else 0
+
+-- and of all four workers
+abbrev pub still_there_in_all : (ℕ → Option Flown) → Kind → ℕ
+still_there_in_all flown k = sum_below 4 (λ w. still_there k (flown w))

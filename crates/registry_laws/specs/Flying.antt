@@ -3,16 +3,18 @@ use Rattle.std.specs.Prelude.{◌≡◌, ◌⊎◌, ◌++◌, ℕ, true, false, 
 use Rattle.table_schema.specs.Fields.{HasRisingKeys}
 use Rattle.table_schema.specs.Plan.{Ports}
 use Rattle.table_schema.specs.declared.key.Key.{Key}
-use Rattle.table_schema.specs.declared.row.Row.{Row}
+use Rattle.sai_types.specs.declared.kind.Kind.{Kind}
 use Rattle.sai_types.specs.declared.weight.WHop.{WHop}
 use Rattle.sai_types.specs.declared.thing.Thing.{Thing}
 use Rattle.sai_types.specs.Alike.{IsIn}
 use Rattle.sai_types.specs.Names.{name_of}
+use Rattle.switch_model.specs.Placed.{Placed as Row}
 use Rattle.row_layout.specs.Operations.{Change, own_changes}
 use Rattle.row_layout.specs.Rows.{Owner}
-use Rattle.switch_machine.specs.Changes.{changed_name}
+use Rattle.switch_machine.specs.Changes.{Disturbs}
 use Rattle.switch_machine.specs.Events.{SwitchState}
 use Rattle.switch_machine.specs.Flights.{Machine, StandsIn, own_of}
+use Rattle.switch_machine.specs.Places.{makes}
 use Rattle.ref_counts.specs.declared.name.NameState.TheVariants as state
 use Rattle.ref_counts.specs.Registered.{Registered}
 use Rattle.ref_counts.specs.Registry.{Names, registered_name_cmp, places_of, registered_at, state_of}
@@ -22,8 +24,8 @@ use Rattle.orch_flight.specs.Grouping.{GroupOperation, IsGroupOver, first_group_
 use Rattle.orch_flight.specs.Needing.{name_for}
 use Rattle.orch_flight.specs.Operation.{Operation}
 use Rattle.orch_flight.specs.Starting.{built_here, ids_for, taken_here}
-use Rattle.registry_laws.specs.Flown.{Flown, due_for, flight_of, group_to_build, group_to_take}
-use Rattle.registry_laws.specs.Registers.{HaveDue, Registers}
+use Rattle.registry_laws.specs.Flown.{Flown, due_for, flight_of, group_to_build, group_to_take, still_there}
+use Rattle.registry_laws.specs.Registers.{HaveDue, Registers, kept_beyond}
 
 -- ---- names
 
@@ -49,9 +51,9 @@ IsRestFrom plan old f = ((f.retires ≡ None) × ((builds : Option Owner) × IsR
 abbrev pub IsBetween : Option Row → Option Row → Option Row → Type 0
 IsBetween old new now = (now ≡ old) ⊎ ((a : Row) × (r : Row) × (n : Row) × (old ≡ Some a) × (new ≡ Some r) × (now ≡ Some n))
 
--- each thing of the row that there is now stands, where a change of it is due
+-- each thing of the row that there is now stands, where it is due to be set or taken away
 abbrev pub HasStanding : Ports → Machine → Operation → Type 0
-HasStanding plan m f = (t : Thing) (c : Change) → IsIn t (own_of plan f.key f.now) → IsIn c f.due → changed_name c ≡ name_of t → StandsIn m t
+HasStanding plan m f = (t : Thing) (c : Change) → IsIn t (own_of plan f.key f.now) → IsIn c f.due → Disturbs c (name_of t) → StandsIn m t
 
 -- ---- and that of a group
 
@@ -78,6 +80,10 @@ pub record IsFlown (plan : Ports) (names : Names) (m : Machine) (w : ℕ) (x : F
   -- after the group that it builds it has changes of its own
   pub later : (hops : List WHop) → group_to_build plan names x.operation ≡ Some hops → x.operation.due ≡ [] → ⊥
   pub group : (g : GroupOperation) → x.group ≡ Some g → IsGroupFlown plan names x.operation g
+  -- it keeps a place beyond those reserved for it exactly while its interface counts as still there
+  pub beyond : (kind : Kind) → kept_beyond m kind w ≡ still_there kind (Some x)
+  -- an interface that goes over to another router needs no places
+  pub reserves : (r : Row) → x.operation.new ≡ Some r → (flight_of x.operation).goes ≡ true → (kind : Kind) → makes kind (m.reserved w) ≡ 0
 
 abbrev pub flown_as : Operation → Option GroupOperation → Flown
 flown_as f g = record { operation = f; group = g }

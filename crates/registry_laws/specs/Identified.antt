@@ -1,6 +1,8 @@
 -- When the registry's identifiers are those of the objects that stand. Own.
-use Rattle.std.specs.Prelude.{◌≡◌, ◌⊎◌, ◌++◌, ℕ, suc, true, List, [], length, Option, Some, None}
+use Rattle.std.specs.Prelude.{◌≡◌, ◌⊎◌, ◌++◌, ℕ, suc, Bool, true, false, List, [], length, Option, Some, None}
+use Rattle.swss_types.specs.declared.interface.IfName.{IfName}
 use Rattle.table_schema.specs.Plan.{Ports}
+use Rattle.table_schema.specs.declared.key.Key.TheVariants as key
 use Rattle.sai_types.specs.declared.weight.WHop.{WHop}
 use Rattle.sai_types.specs.declared.ids.Rid.{Rid}
 use Rattle.sai_types.specs.declared.ids.Vid.{Vid}
@@ -16,12 +18,14 @@ use Rattle.row_layout.specs.Rows.{Group, Owner}
 use Rattle.row_layout.specs.Shared.{shared_things}
 use Rattle.switch_machine.specs.Flights.{Machine, StandsIn, own_of}
 use Rattle.ref_counts.specs.declared.name.Name.TheVariants as name
+use Rattle.ref_counts.specs.declared.name.NameState.{NameState}
 use Rattle.ref_counts.specs.declared.name.NameState.TheVariants as state
 use Rattle.ref_counts.specs.Registry.{Names, ids_of, state_of}
 use Rattle.orch_flight.specs.Calling.{HasVid}
 use Rattle.orch_flight.specs.Grouping.{GroupOperation, HasGroupVid}
 use Rattle.orch_flight.specs.Needing.{name_for}
 use Rattle.orch_flight.specs.Operation.{Operation}
+use Rattle.orch_flight.specs.Starting.{ids_for_row}
 use Rattle.registry_laws.specs.Flown.{Flown}
 
 -- no object of a chip has the number 0
@@ -69,6 +73,16 @@ HoldsPort plan m f = (p : PortThing) → IsIn (thing.Port p) (own_of plan f.key 
 -- a group's name has no identifier, or one of the group and one of each member
 pub record HasWholeGroups (names : Names) : Type 0 where
   pub each : (hops : List WHop) → (ids_of names (name.Group hops) ≡ []) ⊎ (length (ids_of names (name.Group hops)) ≡ suc (length hops))
+
+-- a name is live, or goes
+abbrev pub is_live_or_going : NameState → Bool
+is_live_or_going state.Live = true
+is_live_or_going (state.Retiring worker) = true
+is_live_or_going _ = false
+
+-- the name of an interface that is live or goes has the identifier of its router interface, and that of a Loopback has none
+pub record HasWholeInterfaces (names : Names) : Type 0 where
+  pub each : (n : IfName) → is_live_or_going (state_of names (name.Row (key.Intf n))) ≡ true → length (ids_of names (name.Row (key.Intf n))) ≡ ids_for_row (key.Intf n)
 
 -- ---- what keeps identifiers
 

@@ -2,15 +2,14 @@
 use Rattle.std.specs.Prelude.{◌≡◌, ◌⊎◌, ℕ, true, List, [], Option, Some, None}
 use Rattle.std.specs.List.Sorted.{IsStrictlySortedBy}
 use Rattle.table_schema.specs.Key.{key_cmp}
-use Rattle.table_schema.specs.Names.{names_of}
 use Rattle.table_schema.specs.Plan.{Ports}
 use Rattle.table_schema.specs.declared.key.Key.{Key}
-use Rattle.table_schema.specs.declared.row.Row.{Row}
 use Rattle.sai_types.specs.Alike.{IsIn}
-use Rattle.switch_model.specs.Good.{TypedRows}
+use Rattle.switch_model.specs.Placed.{Placed as Row, PlacedRows}
 use Rattle.row_layout.specs.Rows.{Owner}
 use Rattle.switch_machine.specs.Flights.{MachineBoard, MachineFlight, HasChangeOf, IsFirm, IsResting, IsUser, Machine}
 use Rattle.switch_machine.specs.Reasons.{IsFlownBy}
+use Rattle.orch_flight.specs.Needing.{row_names}
 use Rattle.ref_counts.specs.declared.name.NameState.{NameState}
 use Rattle.ref_counts.specs.declared.name.NameState.TheVariants as state
 use Rattle.ref_counts.specs.declared.pin.Pin.{Pin}
@@ -50,12 +49,12 @@ RowStands m k state.Live = IsFirm m.board k ⊎ IsAllMade m k
 RowStands m k (state.Retiring worker) = IsTakenAway m k worker
 
 -- the applied row of one key names another
-abbrev pub NamesKey : TypedRows → Key → Key → Type 0
-NamesKey applied user k = (r : Row) × (applied user ≡ Some r) × IsIn k (names_of user r)
+abbrev pub NamesKey : PlacedRows → Key → Key → Type 0
+NamesKey applied user k = (r : Row) × (applied user ≡ Some r) × IsIn k (row_names user r)
 
 -- a worker's operation brings its key a row that names this one
 abbrev pub IsPinOf : MachineBoard → Key → Pin → Type 0
-IsPinOf b k p = (f : MachineFlight) × (b.flights p.worker ≡ Some f) × (f.key ≡ p.user) × ((r : Row) × (f.new ≡ Some r) × IsIn k (names_of f.key r))
+IsPinOf b k p = (f : MachineFlight) × (b.flights p.worker ≡ Some f) × (f.key ≡ p.user) × ((r : Row) × (f.new ≡ Some r) × IsIn k (row_names f.key r))
 
 -- the users of a row's name are the keys whose applied rows name it, and its pins those of the operations that bring such a row
 pub record IsKnownRow (m : Machine) (k : Key) (known : Option Registered) : Type 0 where

@@ -1,18 +1,18 @@
 -- When the registry's names and the room's places stand for a state of the machine. Own.
-use Rattle.std.specs.Prelude.{◌≡◌, ◌<◌, ◌≤◌, ℕ, List, [], Option, Some, None}
+use Rattle.std.specs.Prelude.{◌≡◌, ◌+◌, ◌-◌, ◌<◌, ◌≤◌, ℕ, List, [], Option, Some, None}
 use Rattle.table_schema.specs.Plan.{Ports}
 use Rattle.table_schema.specs.declared.key.Key.{Key}
-use Rattle.table_schema.specs.declared.row.Row.{Row}
 use Rattle.sai_types.specs.declared.kind.Kind.{Kind}
 use Rattle.sai_types.specs.Alike.{IsIn}
 use Rattle.sai_types.specs.Objects.{Objects, used}
+use Rattle.switch_model.specs.Placed.{Placed as Row}
 use Rattle.row_layout.specs.Operations.{Change, make_all, own_changes, shared_going, take_all}
 use Rattle.row_layout.specs.Rows.{Group, Owner}
 use Rattle.row_layout.specs.Shared.{shared_things}
 use Rattle.switch_machine.specs.Changes.{changed_name}
 use Rattle.switch_machine.specs.Flights.{MachineFlight, IsOwnedBy, IsShared, Machine, goes_over}
 use Rattle.switch_machine.specs.Operations.{built_first}
-use Rattle.switch_machine.specs.Places.{makes}
+use Rattle.switch_machine.specs.Places.{makes, sum_below}
 use Rattle.sai_types.specs.declared.ids.Vid.{Vid}
 use Rattle.ref_counts.specs.declared.name.Name.{Name}
 use Rattle.ref_counts.specs.declared.name.Name.TheVariants as name
@@ -51,9 +51,13 @@ HaveDue m = (w : ℕ) (f : MachineFlight) → m.board.flights w ≡ Some f → m
 abbrev pub OthersHaveDue : Machine → ℕ → Type 0
 OthersHaveDue m worker = (w : ℕ) (f : MachineFlight) → (w ≡ worker → ⊥) → m.board.flights w ≡ Some f → m.due w ≡ [] → ⊥
 
--- how many objects of each kind there are
-abbrev pub AreUsed : Objects → List ℕ → Type 0
-AreUsed objects numbers = (kind : Kind) → number_of_kind numbers kind ≡ used objects kind
+-- how many places of a kind a worker keeps beyond those reserved for it: of what it took away and is to make again
+abbrev pub kept_beyond : Machine → Kind → ℕ → ℕ
+kept_beyond m kind w = makes kind (m.due w) - makes kind (m.reserved w)
+
+-- how many objects of each kind there are, counted with those that were taken away and are to be made again
+abbrev pub AreUsed : Machine → Objects → List ℕ → Type 0
+AreUsed m objects numbers = (kind : Kind) → number_of_kind numbers kind ≡ used objects kind + sum_below 4 (kept_beyond m kind)
 
 -- the operation that begins, and what is due for it
 abbrev pub beginning : Ports → Key → Option Row → Option Row → MachineFlight

@@ -18,7 +18,7 @@ use Rattle.ref_counts.specs.Room.{RoomState}
 use Rattle.registry_laws.specs.Flown.{Flown}
 use Rattle.registry_laws.specs.Flying.{KnowsBoard}
 use Rattle.registry_laws.specs.Making.{with_group_begun}
-use Rattle.registry_laws.specs.Identified.{HasWholeGroups, Identified}
+use Rattle.registry_laws.specs.Identified.{HasWholeGroups, HasWholeInterfaces, Identified}
 
 -- between events the state is safe; the names, the room and what each worker has under way stand for its machine; and the names' identifiers are tied to those of the objects that stand
 pub record StandsFor (plan : Ports) (capacities : List ℕ) (names : Names) (room : RoomState) (flown : ℕ → Option Flown) (rid : Vid → Option Rid) (s : SwitchState) : Type 0 where
@@ -26,6 +26,7 @@ pub record StandsFor (plan : Ports) (capacities : List ℕ) (names : Names) (roo
   pub board : KnowsBoard plan capacities names room flown s.machine
   pub identified : Identified plan names rid flown s.machine.stands
   pub whole : HasWholeGroups names
+  pub interfaces : HasWholeInterfaces names
 
 -- the operation of the group that a worker is to build, or to take away, has begun
 abbrev pub HasBegun : Ports → Names → Flown → Type 0

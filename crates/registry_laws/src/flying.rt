@@ -1,9 +1,7 @@
 // What workers have under way stands for the machine. Each function is a law: it does nothing, and its contract is proved.
-ghost use Rattle.std.specs.Prelude.{◌≡◌, ◌<◌, ◌∷◌, ℕ, true, false, List, [], Option, None, Some, Ok, is_some};
-ghost use Rattle.table_schema.specs.Names.{names_of};
+ghost use Rattle.std.specs.Prelude.{◌≡◌, ◌<◌, ◌∷◌, ℕ, true, false, List, [], Option, None, Some, Ok, is_some, option_map};
 ghost use Rattle.table_schema.specs.Plan.{IsPlan, Ports};
 ghost use Rattle.table_schema.specs.declared.key.Key.{Key};
-ghost use Rattle.table_schema.specs.declared.row.Row.{Row};
 ghost use Rattle.switch_model.specs.Desired.{have_rows};
 ghost use Rattle.sai_types.specs.Alike.{IsIn};
 ghost use Rattle.sai_types.specs.Names.{name_of};
@@ -12,12 +10,13 @@ ghost use Rattle.sai_types.specs.declared.ids.Rid.{Rid};
 ghost use Rattle.sai_types.specs.declared.ids.Vid.{Vid};
 ghost use Rattle.sai_types.specs.declared.thing.Thing.{Thing};
 ghost use Rattle.chip_layout.specs.Layout.{has_number};
+ghost use Rattle.switch_model.specs.Placed.{Placed as Row, bare, bare_rows};
 ghost use Rattle.row_layout.specs.Operations.{Change, Make};
 ghost use Rattle.row_layout.specs.Rows.{Group};
 ghost use Rattle.row_layout.specs.Shared.{shared_things};
 ghost use Rattle.switch_machine.specs.Changes.{Disturbs};
 ghost use Rattle.switch_machine.specs.Consistent.{IsConsistent};
-ghost use Rattle.switch_machine.specs.Events.{Follows, HasLeft, IsBegin, IsSafe, SwitchState, empty_machine};
+ghost use Rattle.switch_machine.specs.Events.{Follows, HasLeft, IsBegin, IsSafe, SwitchState, empty_machine, placed_good};
 ghost use Rattle.switch_machine.specs.Flights.{Fits, IsResting, Machine, StandsIn, put};
 ghost use Rattle.switch_machine.specs.Steps.{Moves, moved};
 ghost use Rattle.switch_machine.specs.Written.{good_of};
@@ -26,6 +25,7 @@ ghost use Rattle.ref_counts.specs.Registry.{Names};
 ghost use Rattle.ref_counts.specs.Room.{GivesBack, RoomState, all_free};
 ghost use Rattle.orch_flight.specs.Calling.{things_held};
 ghost use Rattle.orch_flight.specs.Grouping.{GroupOperation, IsGroupTook, MayTakeGroup, first_group};
+ghost use Rattle.orch_flight.specs.Needing.{row_names};
 ghost use Rattle.orch_flight.specs.Operation.{Operation};
 ghost use Rattle.orch_flight.specs.Sharing.{MayStart};
 ghost use Rattle.orch_flight.specs.Starting.{IsStartedBy};
@@ -33,6 +33,7 @@ ghost use Rattle.orch_flight.specs.Taking.{IsTook, MayTake};
 ghost use Rattle.registry_laws.specs.Ending.{ended_names};
 ghost use Rattle.registry_laws.specs.Flown.{Flown, due_for, flight_of, group_to_build, group_to_take};
 ghost use Rattle.registry_laws.specs.Flying.{KnowsBoard, flown_as, with_machine};
+ghost use Rattle.registry_laws.specs.Identified.{HasWholeInterfaces};
 ghost use Rattle.registry_laws.specs.Registers.{AreUsed};
 
 /// Before the first event nothing is under way: no name is registered, and all places are free.
@@ -50,14 +51,14 @@ pub fn due_changes_are_told()
 /// A worker that has nothing under way may start the operation of a key that no operation has and whose good row differs from
 /// its applied row.
 pub fn starts_are_allowed()
-    ensures { (plan : Ports) (capacities : List ℕ) (s : SwitchState) (names : Names) (room : RoomState) (flown : ℕ → Option Flown) (w : ℕ) (k : Key) → IsPlan plan → IsSafe plan 4 capacities s → KnowsBoard plan capacities names room flown s.machine → w < 4 → flown w ≡ None → IsReadable k → IsResting s.machine.board k → (s.machine.board.applied k ≡ good_of plan s.written k → ⊥) → ((r : Row) → good_of plan s.written k ≡ Some r → have_rows s.machine.board.applied (names_of k r) ≡ true → Fits plan k r) → MayStart plan names w k (s.machine.board.applied k) (good_of plan s.written k) }
+    ensures { (plan : Ports) (capacities : List ℕ) (s : SwitchState) (names : Names) (room : RoomState) (flown : ℕ → Option Flown) (w : ℕ) (k : Key) → IsPlan plan → IsSafe plan 4 capacities s → KnowsBoard plan capacities names room flown s.machine → w < 4 → flown w ≡ None → IsReadable k → IsResting s.machine.board k → (option_map bare (s.machine.board.applied k) ≡ good_of plan s.written k → ⊥) → ((r : Row) → placed_good plan s.machine.board s.written k ≡ Some r → have_rows (bare_rows s.machine.board.applied) (row_names k r) ≡ true → Fits plan k r) → MayStart plan names w k (s.machine.board.applied k) (placed_good plan s.machine.board s.written k) }
 {}
 
 /// An operation that starts makes a Begin of the machine. Where a change is due for it the worker has it under way from then
 /// on; where none is it has ended in the same event, and its places are given back.
 pub fn begins_are_known()
-    ensures goes_on { (plan : Ports) (capacities : List ℕ) (s : SwitchState) (names : Names) (room : RoomState) (room' : RoomState) (numbers : List ℕ) (flown : ℕ → Option Flown) (w : ℕ) (k : Key) (later : List Key) (f : Operation) (names' : Names) → IsPlan plan → IsSafe plan 4 capacities s → KnowsBoard plan capacities names room flown s.machine → AreUsed s.objects numbers → w < 4 → flown w ≡ None → IsResting s.machine.board k → (s.machine.board.applied k ≡ good_of plan s.written k → ⊥) → ((r : Row) → good_of plan s.written k ≡ Some r → have_rows s.machine.board.applied (names_of k r) ≡ true → Fits plan k r) → HasLeft k s.to_sync later → IsStartedBy plan names room numbers w k (s.machine.board.applied k) (good_of plan s.written k) (Ok f) names' room' → (due_for plan names' (flown_as f None) ≡ [] → ⊥) → (t : Machine) × ((b : IsBegin plan 4 capacities s (with_machine s t later)) × (b.worker ≡ w) × (b.flight.key ≡ k)) × KnowsBoard plan capacities names' room' (put w (Some (flown_as f None)) flown) t × (t.stands ≡ s.machine.stands) }
-    ensures ends { (plan : Ports) (capacities : List ℕ) (s : SwitchState) (names : Names) (room : RoomState) (room' : RoomState) (numbers : List ℕ) (flown : ℕ → Option Flown) (w : ℕ) (k : Key) (later : List Key) (f : Operation) (names' : Names) (given : RoomState) → IsPlan plan → IsSafe plan 4 capacities s → KnowsBoard plan capacities names room flown s.machine → AreUsed s.objects numbers → w < 4 → flown w ≡ None → IsResting s.machine.board k → (s.machine.board.applied k ≡ good_of plan s.written k → ⊥) → ((r : Row) → good_of plan s.written k ≡ Some r → have_rows s.machine.board.applied (names_of k r) ≡ true → Fits plan k r) → HasLeft k s.to_sync later → IsStartedBy plan names room numbers w k (s.machine.board.applied k) (good_of plan s.written k) (Ok f) names' room' → due_for plan names' (flown_as f None) ≡ [] → GivesBack room' w given → (t : Machine) × ((b : IsBegin plan 4 capacities s (with_machine s t later)) × (b.worker ≡ w) × (b.flight.key ≡ k)) × KnowsBoard plan capacities (ended_names names' w k (s.machine.board.applied k) (good_of plan s.written k)) given (put w None flown) t × (t.stands ≡ s.machine.stands) }
+    ensures goes_on { (plan : Ports) (capacities : List ℕ) (s : SwitchState) (names : Names) (room : RoomState) (room' : RoomState) (numbers : List ℕ) (flown : ℕ → Option Flown) (w : ℕ) (k : Key) (later : List Key) (f : Operation) (names' : Names) → IsPlan plan → IsSafe plan 4 capacities s → KnowsBoard plan capacities names room flown s.machine → AreUsed s.machine s.objects numbers → w < 4 → flown w ≡ None → IsResting s.machine.board k → (option_map bare (s.machine.board.applied k) ≡ good_of plan s.written k → ⊥) → ((r : Row) → placed_good plan s.machine.board s.written k ≡ Some r → have_rows (bare_rows s.machine.board.applied) (row_names k r) ≡ true → Fits plan k r) → HasLeft k s.to_sync later → IsStartedBy plan names room numbers w k (s.machine.board.applied k) (placed_good plan s.machine.board s.written k) (Ok f) names' room' → (due_for plan names' (flown_as f None) ≡ [] → ⊥) → (t : Machine) × ((b : IsBegin plan 4 capacities s (with_machine s t later)) × (b.worker ≡ w) × (b.flight.key ≡ k)) × KnowsBoard plan capacities names' room' (put w (Some (flown_as f None)) flown) t × (t.stands ≡ s.machine.stands) }
+    ensures ends { (plan : Ports) (capacities : List ℕ) (s : SwitchState) (names : Names) (room : RoomState) (room' : RoomState) (numbers : List ℕ) (flown : ℕ → Option Flown) (w : ℕ) (k : Key) (later : List Key) (f : Operation) (names' : Names) (given : RoomState) → IsPlan plan → IsSafe plan 4 capacities s → KnowsBoard plan capacities names room flown s.machine → AreUsed s.machine s.objects numbers → w < 4 → flown w ≡ None → IsResting s.machine.board k → (option_map bare (s.machine.board.applied k) ≡ good_of plan s.written k → ⊥) → ((r : Row) → placed_good plan s.machine.board s.written k ≡ Some r → have_rows (bare_rows s.machine.board.applied) (row_names k r) ≡ true → Fits plan k r) → HasLeft k s.to_sync later → IsStartedBy plan names room numbers w k (s.machine.board.applied k) (placed_good plan s.machine.board s.written k) (Ok f) names' room' → due_for plan names' (flown_as f None) ≡ [] → GivesBack room' w given → (t : Machine) × ((b : IsBegin plan 4 capacities s (with_machine s t later)) × (b.worker ≡ w) × (b.flight.key ≡ k)) × KnowsBoard plan capacities (ended_names names' w k (s.machine.board.applied k) (placed_good plan s.machine.board s.written k)) given (put w None flown) t × (t.stands ≡ s.machine.stands) }
 {}
 
 /// The operation of a group begins, with no event: the one that the worker is to build, or else the one that it takes away.
@@ -69,7 +70,7 @@ pub fn groups_begin()
 /// The answer of the call that is due next may be taken, of the group while one is under way, and else of the row; and what the
 /// call sets or takes away stands.
 pub fn answers_may_be_taken()
-    ensures row { (plan : Ports) (capacities : List ℕ) (names : Names) (room : RoomState) (flown : ℕ → Option Flown) (m : Machine) (w : ℕ) (x : Flown) (made : Option Vid) → IsPlan plan → IsConsistent plan m → KnowsBoard plan capacities names room flown m → flown w ≡ Some x → x.group ≡ None → group_to_build plan names x.operation ≡ None → group_to_take x.operation ≡ None → ((t : Thing) (rest : List Change) → x.operation.due ≡ Make t ∷ rest → is_some made ≡ has_number t) → MayTake x.operation made names }
+    ensures row { (plan : Ports) (capacities : List ℕ) (names : Names) (room : RoomState) (flown : ℕ → Option Flown) (m : Machine) (w : ℕ) (x : Flown) (made : Option Vid) → IsPlan plan → IsConsistent plan m → KnowsBoard plan capacities names room flown m → flown w ≡ Some x → HasWholeInterfaces names → x.group ≡ None → group_to_build plan names x.operation ≡ None → group_to_take x.operation ≡ None → ((t : Thing) (rest : List Change) → x.operation.due ≡ Make t ∷ rest → is_some made ≡ has_number t) → MayTake x.operation made names }
     ensures group { (plan : Ports) (capacities : List ℕ) (names : Names) (room : RoomState) (flown : ℕ → Option Flown) (m : Machine) (w : ℕ) (x : Flown) (g : GroupOperation) (made : Option Vid) → IsPlan plan → IsConsistent plan m → KnowsBoard plan capacities names room flown m → flown w ≡ Some x → x.group ≡ Some g → is_some made ≡ g.builds → MayTakeGroup g made names }
     ensures row_stands { (plan : Ports) (capacities : List ℕ) (names : Names) (room : RoomState) (flown : ℕ → Option Flown) (m : Machine) (w : ℕ) (x : Flown) (c : Change) (rest : List Change) (t : Thing) → IsPlan plan → IsConsistent plan m → KnowsBoard plan capacities names room flown m → flown w ≡ Some x → x.group ≡ None → group_to_build plan names x.operation ≡ None → group_to_take x.operation ≡ None → x.operation.due ≡ c ∷ rest → IsIn t (things_held plan x.operation) → Disturbs c (name_of t) → StandsIn m t }
     ensures group_stands { (plan : Ports) (capacities : List ℕ) (names : Names) (room : RoomState) (flown : ℕ → Option Flown) (m : Machine) (w : ℕ) (x : Flown) (g : GroupOperation) (c : Change) (rest : List Change) (t : Thing) → IsPlan plan → IsConsistent plan m → KnowsBoard plan capacities names room flown m → flown w ≡ Some x → x.group ≡ Some g → g.due ≡ c ∷ rest → IsIn t (shared_things (Group g.hops)) → Disturbs c (name_of t) → StandsIn m t }

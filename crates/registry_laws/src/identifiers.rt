@@ -3,7 +3,6 @@ ghost use Rattle.std.specs.Prelude.{◌≡◌, ◌<◌, ℕ, ◌∷◌, ◌++◌
 ghost use Rattle.table_schema.specs.Fields.{HasRisingKeys};
 ghost use Rattle.table_schema.specs.Plan.{IsPlan, Ports};
 ghost use Rattle.table_schema.specs.declared.key.Key.{Key};
-ghost use Rattle.table_schema.specs.declared.row.Row.{Row};
 ghost use Rattle.sai_types.specs.declared.body.Body.{Body};
 ghost use Rattle.sai_types.specs.declared.body.Call.{Call};
 ghost use Rattle.sai_types.specs.declared.body.Call.TheVariants as call;
@@ -17,6 +16,7 @@ ghost use Rattle.sai_types.specs.Alike.{IsIn};
 ghost use Rattle.sai_types.specs.Names.{ThingName};
 ghost use Rattle.chip_layout.specs.Layout.{has_number};
 ghost use Rattle.chip_layout.specs.Renamed.{call_renamed};
+ghost use Rattle.switch_model.specs.Placed.{Placed as Row};
 ghost use Rattle.row_layout.specs.Operations.{Change, Make, Take, uses_of};
 ghost use Rattle.row_layout.specs.Rows.{Group, Owner};
 ghost use Rattle.row_layout.specs.Shared.{shared_things};
@@ -36,7 +36,7 @@ ghost use Rattle.orch_flight.specs.Sharing.{MayStart};
 ghost use Rattle.orch_flight.specs.Starting.{left_names, started_names, started_operation};
 ghost use Rattle.orch_flight.specs.Taking.{IsTook, MayTake};
 ghost use Rattle.registry_laws.specs.Answering.{IsOfGroup};
-ghost use Rattle.registry_laws.specs.Ending.{ended_names};
+ghost use Rattle.registry_laws.specs.Ending.{MayEnd, ended_names};
 ghost use Rattle.registry_laws.specs.Flown.{Flown, flight_of};
 ghost use Rattle.registry_laws.specs.Registers.{KnowsNames};
 ghost use Rattle.registry_laws.specs.Identified.{BuildsGroups, FliesOn, HasWholeGroups, HaveSameIds, HoldsPort, Identified, IsPartlyBuilt, IsUnderWay, KeepsBuilds, PortsStand, TiesAfter, tie_by};
@@ -106,7 +106,7 @@ pub fn groups_stay_whole()
 pub fn names_keep_identifiers()
     ensures started { (plan : Ports) (names : Names) (rid : Vid → Option Rid) (flown : ℕ → Option Flown) (stands : List (Rid × Thing)) (w : ℕ) (k : Key) (old : Option Row) (new : Option Row) → IsPlan plan → MayStart plan names w k old new → Identified plan names rid flown stands → Identified plan (started_names plan names w k old new) rid flown stands }
     ensures left { (plan : Ports) (names : Names) (rid : Vid → Option Rid) (flown : ℕ → Option Flown) (stands : List (Rid × Thing)) (w : ℕ) (k : Key) (o : Owner) → state_of names (name_for o) ≡ state.Live → Identified plan names rid flown stands → Identified plan (left_names names w k o) rid flown stands }
-    ensures ended { (plan : Ports) (m : Machine) (names : Names) (rid : Vid → Option Rid) (flown : ℕ → Option Flown) (w : ℕ) (f : MachineFlight) (old : Option Row) → IsConsistent plan m → Ends m w f → Identified plan names rid flown m.stands → Identified plan (ended_names names w f.key old f.new) rid flown m.stands }
+    ensures ended { (plan : Ports) (m : Machine) (names : Names) (rid : Vid → Option Rid) (flown : ℕ → Option Flown) (w : ℕ) (f : MachineFlight) (old : Option Row) → IsConsistent plan m → Ends m w f → MayEnd names w f.key f.new → Identified plan names rid flown m.stands → Identified plan (ended_names names w f.key old f.new) rid flown m.stands }
     ensures begun { (plan : Ports) (names : Names) (rid : Vid → Option Rid) (flown : ℕ → Option Flown) (stands : List (Rid × Thing)) (w : ℕ) (x : Flown) (hops : List WHop) (builds : Bool) → flown w ≡ Some x → x.group ≡ None → Identified plan names rid flown stands → Identified plan names rid (put w (Some (record { operation = x.operation; group = Some (first_group plan w hops builds) })) flown) stands × (builds ≡ true → IsPartlyBuilt (first_group plan w hops builds)) }
     ensures same { (plan : Ports) (names : Names) (names' : Names) (rid : Vid → Option Rid) (flown : ℕ → Option Flown) (stands : List (Rid × Thing)) → HaveSameIds names names' → Identified plan names rid flown stands → Identified plan names' rid flown stands }
     ensures flown { (plan : Ports) (names : Names) (rid : Vid → Option Rid) (flown : ℕ → Option Flown) (flown' : ℕ → Option Flown) (stands : List (Rid × Thing)) → KeepsBuilds flown flown' → Identified plan names rid flown stands → Identified plan names rid flown' stands }

@@ -1,13 +1,12 @@
 // The registry stands for the machine. Each function is a law: it does nothing, and its contract is proved.
-ghost use Rattle.std.specs.Prelude.{◌≡◌, ◌⊎◌, ◌<◌, ◌≤◌, ℕ, true, ◌++◌, ◌∷◌, List, [], Option, None, Some};
+ghost use Rattle.std.specs.Prelude.{◌≡◌, ◌⊎◌, ◌<◌, ◌≤◌, ℕ, true, ◌++◌, ◌∷◌, List, [], Option, None, Some, option_map};
 ghost use Rattle.table_schema.specs.Fields.{HasRisingKeys};
-ghost use Rattle.table_schema.specs.Names.{names_of};
 ghost use Rattle.table_schema.specs.Plan.{IsPlan, Ports};
 ghost use Rattle.table_schema.specs.declared.key.Key.{Key};
-ghost use Rattle.table_schema.specs.declared.row.Row.{Row};
 ghost use Rattle.switch_model.specs.Desired.{have_rows};
 ghost use Rattle.switch_model.specs.declared.wait.Wait.{Wait};
-ghost use Rattle.switch_machine.specs.Events.{Follows, IsSafe, SwitchState, empty_machine};
+ghost use Rattle.switch_model.specs.Placed.{Placed as Row, bare, bare_rows};
+ghost use Rattle.switch_machine.specs.Events.{Follows, IsSafe, SwitchState, empty_machine, placed_good};
 ghost use Rattle.sai_types.specs.declared.ids.Rid.{Rid};
 ghost use Rattle.sai_types.specs.declared.ids.Vid.{Vid};
 ghost use Rattle.sai_types.specs.declared.thing.Thing.{Thing};
@@ -24,7 +23,7 @@ ghost use Rattle.switch_machine.specs.Written.{good_of};
 ghost use Rattle.ref_counts.specs.declared.name.Name.TheVariants as name;
 ghost use Rattle.ref_counts.specs.Registry.{Names, gone_from, registered_name_cmp};
 ghost use Rattle.ref_counts.specs.Room.{GivesBack, Reserves, RoomState, all_free};
-ghost use Rattle.orch_flight.specs.Needing.{name_for, places_for, to_build, wait_of};
+ghost use Rattle.orch_flight.specs.Needing.{name_for, places_for, row_names, to_build, wait_of};
 ghost use Rattle.orch_flight.specs.Starting.{begun_names, first_due, left_names, retired_by, taken_here};
 ghost use Rattle.orch_flight.specs.Taking.{names_after};
 ghost use Rattle.registry_laws.specs.Answering.{IsOfGroup, MakesRowLive};
@@ -34,8 +33,8 @@ ghost use Rattle.registry_laws.specs.Registers.{AreUsed, HaveDue, OthersHaveDue,
 /// For a worker without an operation and a key that no operation has and whose applied row is not its good row: the wait that
 /// the registry and the room answer is a true reason; where they answer none the operation may begin, and has room.
 pub fn reasons_hold()
-    ensures reason { (plan : Ports) (workers : ℕ) (capacities : List ℕ) (s : SwitchState) (names : Names) (room : RoomState) (numbers : List ℕ) (w : ℕ) (k : Key) (wait : Wait) → IsPlan plan → IsSafe plan workers capacities s → Registers plan workers capacities names room s.machine → HaveDue s.machine → AreUsed s.objects numbers → s.machine.board.flights w ≡ None → IsResting s.machine.board k → (s.machine.board.applied k ≡ good_of plan s.written k → ⊥) → ((r : Row) → good_of plan s.written k ≡ Some r → have_rows s.machine.board.applied (names_of k r) ≡ true → Fits plan k r) → wait_of plan names room numbers w k (s.machine.board.applied k) (good_of plan s.written k) ≡ Some wait → IsReason plan workers capacities s k wait }
-    ensures begins { (plan : Ports) (workers : ℕ) (capacities : List ℕ) (s : SwitchState) (names : Names) (room : RoomState) (numbers : List ℕ) (w : ℕ) (k : Key) → IsPlan plan → IsSafe plan workers capacities s → Registers plan workers capacities names room s.machine → HaveDue s.machine → AreUsed s.objects numbers → s.machine.board.flights w ≡ None → IsResting s.machine.board k → ((r : Row) → good_of plan s.written k ≡ Some r → have_rows s.machine.board.applied (names_of k r) ≡ true → Fits plan k r) → wait_of plan names room numbers w k (s.machine.board.applied k) (good_of plan s.written k) ≡ None → MayBegin plan s.machine w (beginning plan k (s.machine.board.applied k) (good_of plan s.written k)) (due_first plan names k (s.machine.board.applied k) (good_of plan s.written k)) × HasRoomFor workers capacities s.objects s.machine (due_first plan names k (s.machine.board.applied k) (good_of plan s.written k)) }
+    ensures reason { (plan : Ports) (workers : ℕ) (capacities : List ℕ) (s : SwitchState) (names : Names) (room : RoomState) (numbers : List ℕ) (w : ℕ) (k : Key) (wait : Wait) → IsPlan plan → IsSafe plan workers capacities s → Registers plan workers capacities names room s.machine → HaveDue s.machine → AreUsed s.machine s.objects numbers → s.machine.board.flights w ≡ None → IsResting s.machine.board k → (option_map bare (s.machine.board.applied k) ≡ good_of plan s.written k → ⊥) → ((r : Row) → placed_good plan s.machine.board s.written k ≡ Some r → have_rows (bare_rows s.machine.board.applied) (row_names k r) ≡ true → Fits plan k r) → wait_of plan names room numbers w k (s.machine.board.applied k) (placed_good plan s.machine.board s.written k) ≡ Some wait → IsReason plan workers capacities s k wait }
+    ensures begins { (plan : Ports) (workers : ℕ) (capacities : List ℕ) (s : SwitchState) (names : Names) (room : RoomState) (numbers : List ℕ) (w : ℕ) (k : Key) → IsPlan plan → IsSafe plan workers capacities s → Registers plan workers capacities names room s.machine → HaveDue s.machine → AreUsed s.machine s.objects numbers → s.machine.board.flights w ≡ None → IsResting s.machine.board k → ((r : Row) → placed_good plan s.machine.board s.written k ≡ Some r → have_rows (bare_rows s.machine.board.applied) (row_names k r) ≡ true → Fits plan k r) → wait_of plan names room numbers w k (s.machine.board.applied k) (placed_good plan s.machine.board s.written k) ≡ None → MayBegin plan s.machine w (beginning plan k (s.machine.board.applied k) (placed_good plan s.machine.board s.written k)) (due_first plan names k (s.machine.board.applied k) (placed_good plan s.machine.board s.written k)) × HasRoomFor workers capacities s.objects s.machine (due_first plan names k (s.machine.board.applied k) (placed_good plan s.machine.board s.written k)) }
 {}
 
 /// The registry stands for the machine again when an operation has started that may begin, with the names begun and places

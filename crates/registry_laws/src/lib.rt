@@ -24,7 +24,8 @@ pub use laws::{
     reasons_hold, starts_are_registered,
 };
 pub use machine::{
-    answers_are_events, answers_may_come, beginnings_are_events, ends_are_told,
+    answers_are_events, answers_may_come, beginnings_are_events, ends_are_told, ends_may_come,
     groups_begin_in_place, keys_wait_or_begin, next_calls_are_known, nothing_stands_for,
-    rows_stand_for, the_same_stands_for, tied_calls_are_due, views_go_over, workers_rest,
+    places_are_counted, rows_stand_for, the_same_stands_for, tied_calls_are_due, views_go_over,
+    workers_rest,
 };

@@ -1,5 +1,5 @@
 // Each step of the core is an event of the machine. Each function is a law: it does nothing, and its contract is proved.
-ghost use Rattle.std.specs.Prelude.{◌≡◌, ◌⊎◌, ◌<◌, ◌∷◌, ℕ, true, false, List, [], Option, None, Some, Ok, is_some};
+ghost use Rattle.std.specs.Prelude.{◌≡◌, ◌⊎◌, ◌<◌, ◌∷◌, ℕ, true, false, List, [], Option, None, Some, Ok, is_some, option_map, ◌+◌, ◌≤◌};
 ghost use Rattle.table_schema.specs.Plan.{IsPlan, Ports};
 ghost use Rattle.table_schema.specs.declared.key.Key.{Key};
 ghost use Rattle.sai_types.specs.declared.body.Call.{Call};
@@ -9,14 +9,13 @@ ghost use Rattle.sai_types.specs.declared.thing.Thing.{Thing};
 ghost use Rattle.sai_types.specs.After.{makes_id};
 ghost use Rattle.sai_types.specs.Alike.{IsIn};
 ghost use Rattle.sai_types.specs.Made.{IsWhole};
-ghost use Rattle.sai_types.specs.Objects.{Objects};
-ghost use Rattle.sai_types.specs.Refusal.{IsLegal};
+ghost use Rattle.sai_types.specs.Objects.{Objects, used};
+ghost use Rattle.sai_types.specs.Refusal.{IsLegal, capacity_of};
 ghost use Rattle.chip_layout.specs.Layout.{IsLaidOut, listed, next_rid};
 ghost use Rattle.chip_layout.specs.Renamed.{call_renamed};
-ghost use Rattle.switch_machine.specs.Events.{HasLeft, IsAnswer, IsBegin, IsDrop, IsDueCall, IsPop, IsQuiet, IsTake, SwitchState, empty_switch, fresh_view};
+ghost use Rattle.switch_model.specs.Placed.{Placed as Row, bare, bare_rows};
+ghost use Rattle.switch_machine.specs.Events.{HasLeft, IsAnswer, IsBegin, IsDrop, IsDueCall, IsPop, IsQuiet, IsTake, SwitchState, empty_switch, fresh_view, placed_good};
 ghost use Rattle.switch_machine.specs.Flights.{Fits, IsResting, Machine, put};
-ghost use Rattle.table_schema.specs.Names.{names_of};
-ghost use Rattle.table_schema.specs.declared.row.Row.{Row};
 ghost use Rattle.switch_model.specs.Desired.{have_rows};
 ghost use Rattle.switch_model.specs.declared.wait.Wait.{Wait};
 ghost use Rattle.switch_model.specs.declared.wait.Wait.TheVariants as wait;
@@ -24,15 +23,16 @@ ghost use Rattle.switch_machine.specs.Reasons.{IsReason};
 ghost use Rattle.switch_machine.specs.Written.{HasWrittenRows, IsTold, Written, good_of};
 ghost use Rattle.orch_flight.specs.Calling.{IsOver};
 ghost use Rattle.orch_flight.specs.Grouping.{GroupOperation, IsGroupOver, IsGroupTook};
-ghost use Rattle.orch_flight.specs.Needing.{wait_of};
+ghost use Rattle.orch_flight.specs.Needing.{row_names, wait_of};
 ghost use Rattle.orch_flight.specs.Operation.{Operation};
 ghost use Rattle.orch_flight.specs.Sharing.{MayStart};
 ghost use Rattle.orch_flight.specs.Starting.{IsStartedBy};
+ghost use Rattle.sai_types.specs.declared.kind.Kind.{Kind};
 ghost use Rattle.registry_laws.specs.Registers.{AreUsed};
 ghost use Rattle.ref_counts.specs.Registry.{Names};
-ghost use Rattle.ref_counts.specs.Room.{GivesBack, RoomState, all_free};
-ghost use Rattle.registry_laws.specs.Ending.{ended_names};
-ghost use Rattle.registry_laws.specs.Flown.{Flown, due_for, flight_of};
+ghost use Rattle.ref_counts.specs.Room.{GivesBack, RoomState, all_free, number_of_kind};
+ghost use Rattle.registry_laws.specs.Ending.{ended_names, MayEnd};
+ghost use Rattle.registry_laws.specs.Flown.{Flown, due_for, flight_of, still_there_in_all};
 ghost use Rattle.registry_laws.specs.Flying.{flown_as, with_machine};
 ghost use Rattle.registry_laws.specs.Making.{IsNextCall, KnowsNext, MayTakeFor, TookFor, left_of_group_by, with_group_begun};
 ghost use Rattle.registry_laws.specs.Identified.{KeepsTies, tie_by};
@@ -68,8 +68,8 @@ pub fn groups_begin_in_place()
 /// A key that no worker has under way may begin, where its good row is another than its applied one; the wait that the registry and
 /// the room answer is a true reason; and a key that a worker has under way waits for that worker.
 pub fn keys_wait_or_begin()
-    ensures may { (plan : Ports) (capacities : List ℕ) (names : Names) (room : RoomState) (flown : ℕ → Option Flown) (rid : Vid → Option Rid) (s : SwitchState) (w : ℕ) (k : Key) → IsPlan plan → StandsFor plan capacities names room flown rid s → w < 4 → flown w ≡ None → IsNotFlown flown k → (s.machine.board.applied k ≡ good_of plan s.written k → ⊥) → ((r : Row) → good_of plan s.written k ≡ Some r → have_rows s.machine.board.applied (names_of k r) ≡ true → Fits plan k r) → MayStart plan names w k (s.machine.board.applied k) (good_of plan s.written k) }
-    ensures waits { (plan : Ports) (capacities : List ℕ) (names : Names) (room : RoomState) (numbers : List ℕ) (flown : ℕ → Option Flown) (rid : Vid → Option Rid) (s : SwitchState) (w : ℕ) (k : Key) (wait : Wait) → IsPlan plan → StandsFor plan capacities names room flown rid s → AreUsed s.objects numbers → flown w ≡ None → IsNotFlown flown k → (s.machine.board.applied k ≡ good_of plan s.written k → ⊥) → ((r : Row) → good_of plan s.written k ≡ Some r → have_rows s.machine.board.applied (names_of k r) ≡ true → Fits plan k r) → wait_of plan names room numbers w k (s.machine.board.applied k) (good_of plan s.written k) ≡ Some wait → IsReason plan 4 capacities s k wait }
+    ensures may { (plan : Ports) (capacities : List ℕ) (names : Names) (room : RoomState) (flown : ℕ → Option Flown) (rid : Vid → Option Rid) (s : SwitchState) (w : ℕ) (k : Key) → IsPlan plan → StandsFor plan capacities names room flown rid s → w < 4 → flown w ≡ None → IsNotFlown flown k → (option_map bare (s.machine.board.applied k) ≡ good_of plan s.written k → ⊥) → ((r : Row) → placed_good plan s.machine.board s.written k ≡ Some r → have_rows (bare_rows s.machine.board.applied) (row_names k r) ≡ true → Fits plan k r) → MayStart plan names w k (s.machine.board.applied k) (placed_good plan s.machine.board s.written k) }
+    ensures waits { (plan : Ports) (capacities : List ℕ) (names : Names) (room : RoomState) (numbers : List ℕ) (flown : ℕ → Option Flown) (rid : Vid → Option Rid) (s : SwitchState) (w : ℕ) (k : Key) (wait : Wait) → IsPlan plan → StandsFor plan capacities names room flown rid s → AreUsed s.machine s.objects numbers → flown w ≡ None → IsNotFlown flown k → (option_map bare (s.machine.board.applied k) ≡ good_of plan s.written k → ⊥) → ((r : Row) → placed_good plan s.machine.board s.written k ≡ Some r → have_rows (bare_rows s.machine.board.applied) (row_names k r) ≡ true → Fits plan k r) → wait_of plan names room numbers w k (s.machine.board.applied k) (placed_good plan s.machine.board s.written k) ≡ Some wait → IsReason plan 4 capacities s k wait }
     ensures busy { (plan : Ports) (capacities : List ℕ) (names : Names) (room : RoomState) (flown : ℕ → Option Flown) (rid : Vid → Option Rid) (s : SwitchState) (v : ℕ) (x : Flown) → StandsFor plan capacities names room flown rid s → flown v ≡ Some x → IsReason plan 4 capacities s x.operation.key (wait.Busy v) }
     ensures rests { (plan : Ports) (capacities : List ℕ) (names : Names) (room : RoomState) (flown : ℕ → Option Flown) (rid : Vid → Option Rid) (s : SwitchState) (k : Key) → StandsFor plan capacities names room flown rid s → IsNotFlown flown k → IsResting s.machine.board k }
 {}
@@ -98,15 +98,29 @@ pub fn answers_may_come()
 /// An operation that starts is a Begin of the machine. Where a change is due for it the worker has it under way from then on; where none
 /// is it has ended in the same event, and its places are given back.
 pub fn beginnings_are_events()
-    ensures goes_on { (plan : Ports) (capacities : List ℕ) (names names' : Names) (room room' : RoomState) (numbers : List ℕ) (flown : ℕ → Option Flown) (rid : Vid → Option Rid) (s : SwitchState) (w : ℕ) (k : Key) (later : List Key) (f : Operation) → IsPlan plan → StandsFor plan capacities names room flown rid s → AreUsed s.objects numbers → w < 4 → flown w ≡ None → IsNotFlown flown k → (s.machine.board.applied k ≡ good_of plan s.written k → ⊥) → ((r : Row) → good_of plan s.written k ≡ Some r → have_rows s.machine.board.applied (names_of k r) ≡ true → Fits plan k r) → HasLeft k s.to_sync later → IsStartedBy plan names room numbers w k (s.machine.board.applied k) (good_of plan s.written k) (Ok f) names' room' → (due_for plan names' (flown_as f None) ≡ [] → ⊥) → (t : Machine) × ((b : IsBegin plan 4 capacities s (with_machine s t later)) × (b.worker ≡ w) × (b.flight.key ≡ k)) × StandsFor plan capacities names' room' (put w (Some (flown_as f None)) flown) rid (with_machine s t later) }
-    ensures ends { (plan : Ports) (capacities : List ℕ) (names names' : Names) (room room' given : RoomState) (numbers : List ℕ) (flown : ℕ → Option Flown) (rid : Vid → Option Rid) (s : SwitchState) (w : ℕ) (k : Key) (later : List Key) (f : Operation) → IsPlan plan → StandsFor plan capacities names room flown rid s → AreUsed s.objects numbers → w < 4 → flown w ≡ None → IsNotFlown flown k → (s.machine.board.applied k ≡ good_of plan s.written k → ⊥) → ((r : Row) → good_of plan s.written k ≡ Some r → have_rows s.machine.board.applied (names_of k r) ≡ true → Fits plan k r) → HasLeft k s.to_sync later → IsStartedBy plan names room numbers w k (s.machine.board.applied k) (good_of plan s.written k) (Ok f) names' room' → due_for plan names' (flown_as f None) ≡ [] → GivesBack room' w given → (t : Machine) × ((b : IsBegin plan 4 capacities s (with_machine s t later)) × (b.worker ≡ w) × (b.flight.key ≡ k)) × StandsFor plan capacities (ended_names names' w k (s.machine.board.applied k) (good_of plan s.written k)) given (put w None flown) rid (with_machine s t later) }
+    ensures goes_on { (plan : Ports) (capacities : List ℕ) (names names' : Names) (room room' : RoomState) (numbers : List ℕ) (flown : ℕ → Option Flown) (rid : Vid → Option Rid) (s : SwitchState) (w : ℕ) (k : Key) (later : List Key) (f : Operation) → IsPlan plan → StandsFor plan capacities names room flown rid s → AreUsed s.machine s.objects numbers → w < 4 → flown w ≡ None → IsNotFlown flown k → (option_map bare (s.machine.board.applied k) ≡ good_of plan s.written k → ⊥) → ((r : Row) → placed_good plan s.machine.board s.written k ≡ Some r → have_rows (bare_rows s.machine.board.applied) (row_names k r) ≡ true → Fits plan k r) → HasLeft k s.to_sync later → IsStartedBy plan names room numbers w k (s.machine.board.applied k) (placed_good plan s.machine.board s.written k) (Ok f) names' room' → (due_for plan names' (flown_as f None) ≡ [] → ⊥) → (t : Machine) × ((b : IsBegin plan 4 capacities s (with_machine s t later)) × (b.worker ≡ w) × (b.flight.key ≡ k)) × StandsFor plan capacities names' room' (put w (Some (flown_as f None)) flown) rid (with_machine s t later) }
+    ensures ends { (plan : Ports) (capacities : List ℕ) (names names' : Names) (room room' given : RoomState) (numbers : List ℕ) (flown : ℕ → Option Flown) (rid : Vid → Option Rid) (s : SwitchState) (w : ℕ) (k : Key) (later : List Key) (f : Operation) → IsPlan plan → StandsFor plan capacities names room flown rid s → AreUsed s.machine s.objects numbers → w < 4 → flown w ≡ None → IsNotFlown flown k → (option_map bare (s.machine.board.applied k) ≡ good_of plan s.written k → ⊥) → ((r : Row) → placed_good plan s.machine.board s.written k ≡ Some r → have_rows (bare_rows s.machine.board.applied) (row_names k r) ≡ true → Fits plan k r) → HasLeft k s.to_sync later → IsStartedBy plan names room numbers w k (s.machine.board.applied k) (placed_good plan s.machine.board s.written k) (Ok f) names' room' → MayEnd names' w k (placed_good plan s.machine.board s.written k) → due_for plan names' (flown_as f None) ≡ [] → GivesBack room' w given → (t : Machine) × ((b : IsBegin plan 4 capacities s (with_machine s t later)) × (b.worker ≡ w) × (b.flight.key ≡ k)) × StandsFor plan capacities (ended_names names' w k (s.machine.board.applied k) (placed_good plan s.machine.board s.written k)) given (put w None flown) rid (with_machine s t later) }
 {}
 
 /// The next call has taken effect, and its answer was taken: that is an Answer of the machine. Where something is due for what the worker
 /// has then it goes on; where nothing is it has ended in the same event, and its places are given back.
 pub fn answers_are_events()
     ensures goes_on { (plan : Ports) (capacities : List ℕ) (names names' : Names) (room : RoomState) (flown : ℕ → Option Flown) (rid rid' : Vid → Option Rid) (s : SwitchState) (w : ℕ) (x x' : Flown) (c : Call Vid) (made : Option Vid) → IsPlan plan → StandsFor plan capacities names room flown rid s → flown w ≡ Some x → HasBegun plan names x → IsNextCall plan names x.operation x.group c → is_some made ≡ makes_id c → TiesFollowCall rid rid' c made (next_rid s.made) → TookFor x.operation x.group made names x' names' → (due_for plan names' x' ≡ [] → ⊥) → (t : Machine) × ((z : IsAnswer plan 4 (call_renamed (tie_by rid) c) s (with_answer s t (call_renamed (tie_by rid) c))) × (z.next.worker ≡ w)) × StandsFor plan capacities names' room (put w (Some x') flown) rid' (with_answer s t (call_renamed (tie_by rid) c)) }
-    ensures ends { (plan : Ports) (capacities : List ℕ) (names names' : Names) (room : RoomState) (flown : ℕ → Option Flown) (rid rid' : Vid → Option Rid) (s : SwitchState) (w : ℕ) (x x' : Flown) (c : Call Vid) (made : Option Vid) → IsPlan plan → StandsFor plan capacities names room flown rid s → flown w ≡ Some x → HasBegun plan names x → IsNextCall plan names x.operation x.group c → is_some made ≡ makes_id c → TiesFollowCall rid rid' c made (next_rid s.made) → TookFor x.operation x.group made names x' names' → (given : RoomState) → due_for plan names' x' ≡ [] → GivesBack room w given → (t : Machine) × ((z : IsAnswer plan 4 (call_renamed (tie_by rid) c) s (with_answer s t (call_renamed (tie_by rid) c))) × (z.next.worker ≡ w)) × StandsFor plan capacities (ended_names names' w x'.operation.key (s.machine.board.applied x'.operation.key) x'.operation.new) given (put w None flown) rid' (with_answer s t (call_renamed (tie_by rid) c)) }
+    ensures ends { (plan : Ports) (capacities : List ℕ) (names names' : Names) (room : RoomState) (flown : ℕ → Option Flown) (rid rid' : Vid → Option Rid) (s : SwitchState) (w : ℕ) (x x' : Flown) (c : Call Vid) (made : Option Vid) → IsPlan plan → StandsFor plan capacities names room flown rid s → flown w ≡ Some x → HasBegun plan names x → IsNextCall plan names x.operation x.group c → is_some made ≡ makes_id c → TiesFollowCall rid rid' c made (next_rid s.made) → TookFor x.operation x.group made names x' names' → (given : RoomState) → MayEnd names' w x'.operation.key x'.operation.new → due_for plan names' x' ≡ [] → GivesBack room w given → (t : Machine) × ((z : IsAnswer plan 4 (call_renamed (tie_by rid) c) s (with_answer s t (call_renamed (tie_by rid) c))) × (z.next.worker ≡ w)) × StandsFor plan capacities (ended_names names' w x'.operation.key (s.machine.board.applied x'.operation.key) x'.operation.new) given (put w None flown) rid' (with_answer s t (call_renamed (tie_by rid) c)) }
+{}
+
+/// An operation may end that has started, or whose last answer was taken: a name that it took away, and whose row is to be, has no
+/// identifier.
+pub fn ends_may_come()
+    ensures started { (plan : Ports) (capacities : List ℕ) (names names' : Names) (room room' : RoomState) (numbers : List ℕ) (flown : ℕ → Option Flown) (rid : Vid → Option Rid) (s : SwitchState) (w : ℕ) (k : Key) (f : Operation) → IsPlan plan → StandsFor plan capacities names room flown rid s → flown w ≡ None → IsNotFlown flown k → MayStart plan names w k (s.machine.board.applied k) (placed_good plan s.machine.board s.written k) → IsStartedBy plan names room numbers w k (s.machine.board.applied k) (placed_good plan s.machine.board s.written k) (Ok f) names' room' → due_for plan names' (flown_as f None) ≡ [] → MayEnd names' w k (placed_good plan s.machine.board s.written k) }
+    ensures took { (plan : Ports) (capacities : List ℕ) (names names' : Names) (room : RoomState) (flown : ℕ → Option Flown) (rid : Vid → Option Rid) (s : SwitchState) (w : ℕ) (x x' : Flown) (made : Option Vid) → IsPlan plan → StandsFor plan capacities names room flown rid s → flown w ≡ Some x → HasBegun plan names x → TookFor x.operation x.group made names x' names' → due_for plan names' x' ≡ [] → MayEnd names' w x'.operation.key x'.operation.new }
+{}
+
+/// The interfaces that stand between their removal and their creation are counted with the objects that there are: then the numbers
+/// are those of the used places, and none of them is above its capacity.
+pub fn places_are_counted()
+    ensures used { (plan : Ports) (capacities : List ℕ) (names : Names) (room : RoomState) (numbers : List ℕ) (flown : ℕ → Option Flown) (rid : Vid → Option Rid) (s : SwitchState) → StandsFor plan capacities names room flown rid s → ((kind : Kind) → number_of_kind numbers kind ≡ used s.objects kind + still_there_in_all flown kind) → AreUsed s.machine s.objects numbers }
+    ensures within { (plan : Ports) (capacities : List ℕ) (names : Names) (room : RoomState) (flown : ℕ → Option Flown) (rid : Vid → Option Rid) (s : SwitchState) (kind : Kind) → StandsFor plan capacities names room flown rid s → used s.objects kind + still_there_in_all flown kind ≤ capacity_of capacities kind }
 {}
 
 /// Once the same things stand on a chip by its identifiers, to which those of the service are tied, all stands for the state over the chip.

@@ -14,6 +14,7 @@ use Rattle.table_schema.proofs.Keys.{tied_keys_same}
 use Rattle.sai_types.specs.Alike.{IsIn}
 use Rattle.switch_model.specs.Good.{TypedRows, good_row}
 use Rattle.switch_model.specs.Marks.{IsTrueReason, ListsNoRow, ReasonsAreTrue, applied_rows, sent_writes}
+use Rattle.switch_model.specs.Placed.{bare_rows}
 use Rattle.switch_model.specs.Promises.{IsBegun, applied_at, good_rows_at}
 use Rattle.switch_model.specs.declared.mark.Mark.{Mark}
 use Rattle.switch_model.specs.declared.wait.Wait.{Wait}
@@ -58,7 +59,7 @@ all_true plan capacities good rows ((k, w) ∷ ws) h = (h k w (inl refl), all_tr
 
 module _ (plan : Ports) (is : IsPlan plan) (workers : ℕ) (capacities : List ℕ) (s : Written) (view : SwitchState) (told : IsTold s) (dated : HasWrittenRows s) (x : IsRestored plan workers capacities s view) (taken : List Sent) (mark : Mark) (same : sent_writes (take mark.taken taken) ≡ s.taken) where
   abbrev rows : TypedRows
-  rows = view.machine.board.applied
+  rows = bare_rows view.machine.board.applied
 
   goods : (k : Key) → good_rows_at plan taken mark.taken k ≡ good_of plan x.written k
   goods k =
@@ -83,7 +84,7 @@ module _ (plan : Ports) (is : IsPlan plan) (workers : ℕ) (capacities : List �
   restored-begun = record {
     closed = λ k r at. have-same rows (applied_at plan taken mark (waiting_of x.waits)) (names_of k r) (λ p h. same_rows p) ∙ restored-closed plan is workers capacities s view told dated x k r (sym (same_rows k) ∙ at);
     reasons = all_true plan capacities (good_rows_at plan taken mark.taken) (applied_at plan taken mark (waiting_of x.waits)) x.waits
-        (λ q w h. reason-stays plan capacities (good_of plan view.written) (good_rows_at plan taken mark.taken) rows (applied_at plan taken mark (waiting_of x.waits)) q w (waits q w h).absent (goods q ∙ ap (λ z. good_of plan z q) (sym written)) (λ p r i. same_rows p) (λ p r at. same_rows p ∙ at) (waits q w h).reason);
+        (λ q w h. reason-stays plan capacities (good_of plan view.written) (good_rows_at plan taken mark.taken) rows (applied_at plan taken mark (waiting_of x.waits)) q w (restored-closed plan is workers capacities s view told dated x) (waits q w h).absent (goods q ∙ ap (λ z. good_of plan z q) (sym written)) (λ p r i. same_rows p) (λ p r at. same_rows p ∙ at) (waits q w h).reason);
     order = pass-rising plan workers capacities (fresh_view x.written x.keys) view x.keys x.waits x.rising x.pass;
     absent = no_rows x.waits;
   }

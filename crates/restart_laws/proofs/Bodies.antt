@@ -1,31 +1,25 @@
--- ports that stand have lanes of the plan, interfaces are in the default virtual router, and routes have proper prefixes; so it is with the calls that are due
-use Rattle.std.proofs.Common.{◌≡◌, ◌∷◌, inl, inr, ℕ, List, [], None, Some, refl, sym, ap, subst}
+-- ports that stand have lanes of the plan, and routes have proper prefixes; so it is with the calls that are due
+use Rattle.std.proofs.Common.{◌≡◌, inl, inr, ℕ, List, Some, sym, subst}
 use Rattle.swss_types.specs.Address.{IsProperPrefix}
 use Rattle.swss_types.specs.declared.address.Prefix.{Prefix}
-use Rattle.swss_types.specs.declared.interface.IfName.{IfName}
 use Rattle.swss_types.specs.declared.vrf.Vrf.{Vrf}
-use Rattle.swss_types.specs.declared.vrf.Vrf.TheVariants as vrf
-use Rattle.swss_types.proofs.Proper.{mapped}
 use Rattle.table_schema.specs.Plan.{Ports, IsPlan}
 use Rattle.table_schema.specs.declared.key.Key.{Key}
 use Rattle.table_schema.specs.declared.key.Key.TheVariants as key
-use Rattle.table_schema.specs.declared.row.Row.{Row}
-use Rattle.table_schema.specs.declared.row.Row.TheVariants as row
 use Rattle.sai_types.specs.declared.ids.Rid.{Rid}
-use Rattle.sai_types.specs.declared.hop.Base.{Base}
 use Rattle.sai_types.specs.declared.body.Body.{Body}
 use Rattle.sai_types.specs.declared.body.Call.{Call}
 use Rattle.sai_types.specs.declared.thing.Goal.{Goal}
 use Rattle.sai_types.specs.declared.thing.Thing.{Thing}
 use Rattle.sai_types.specs.declared.thing.Thing.TheVariants as thing
 use Rattle.sai_types.specs.Alike.{IsIn}
-use Rattle.chip_layout.specs.Bodies.{IsBody, body_with, vr_with}
+use Rattle.chip_layout.specs.Bodies.{IsBody, body_with}
 use Rattle.chip_layout.specs.Layout.{Has, Layout, listed}
 use Rattle.row_layout.specs.Rows as owner
-use Rattle.row_layout.specs.Rows.{Owner, OfRow, interface_on, own_things}
+use Rattle.row_layout.specs.Rows.{Owner, OfRow, own_things}
 use Rattle.row_layout.specs.Shared.{shared_things}
-use Rattle.row_layout.proofs.Members.{from_in}
-use Rattle.switch_model.specs.Things.{base_of}
+use Rattle.switch_model.specs.Placed as row
+use Rattle.switch_model.specs.Placed.{Placed as Row}
 use Rattle.row_layout.specs.Operations.{Change, Make, Set, Take}
 use Rattle.switch_machine.specs.Changes.{IsCall}
 use Rattle.switch_machine.specs.Events.{SwitchState, IsDueCall, IsSafe}
@@ -40,17 +34,12 @@ use Rattle.restart_laws.specs.Chips.{IsPlannedBody, IsPlannedCall}
 
 abbrev pub IsPlannedThing : Ports → Thing → Type 0
 IsPlannedThing plan (thing.Port p) = IsPlannedPort plan p.lanes
-IsPlannedThing plan (thing.Rif on v) = v ≡ vrf.Default
 IsPlannedThing plan (thing.Route v prefix g) = IsProperPrefix prefix
 IsPlannedThing plan _ = Unit {0}
 
-default_of : (v : Vrf) (j : Rid) → vr_with v j ≡ None → v ≡ vrf.Default
-default_of vrf.Default j h = refl
-default_of (vrf.Named label) j h = absurd cc
-
 pub body-planned : (plan : Ports) (t : Thing) (i j : Rid) → IsPlannedThing plan t → IsPlannedBody plan (body_with t i j)
 body-planned plan (thing.Port p) i j h = h
-body-planned plan (thing.Rif on v) i j h = ap (λ z. vr_with z j) h
+body-planned plan (thing.Rif on v) i j h = tt
 body-planned plan (thing.Route v prefix g) i j h = h
 body-planned plan (thing.Vlan v) i j h = tt
 body-planned plan (thing.VirtualRouter label) i j h = tt
@@ -64,7 +53,7 @@ body-planned plan (thing.GroupMember v w) i j h = tt
 
 pub planned-body : (plan : Ports) (t : Thing) (i j : Rid) → IsPlannedBody plan (body_with t i j) → IsPlannedThing plan t
 planned-body plan (thing.Port p) i j h = h
-planned-body plan (thing.Rif on v) i j h = default_of v j h
+planned-body plan (thing.Rif on v) i j h = tt
 planned-body plan (thing.Route v prefix g) i j h = h
 planned-body plan (thing.Vlan v) i j h = tt
 planned-body plan (thing.VirtualRouter label) i j h = tt
@@ -95,25 +84,10 @@ route_owner v prefix g (owner.Bridge lane) e h = absurd cc
 route_owner v prefix g (owner.Own w ip) e h = absurd cc
 route_owner v prefix g (owner.Group hops) e h = absurd cc
 
--- ---- interfaces of rows are in the default router
-
-intf_key : (n : IfName) (k : Key) → OfRow (key.Intf n) ≡ OfRow k → key.Intf n ≡ k
-intf_key n k h = cc
-
-rif_in : (a b : Base) (v : Vrf) → IsIn (thing.Rif a v) (thing.Rif b vrf.Default ∷ []) → v ≡ vrf.Default
-rif_in a b v (inl e) = cc
-rif_in a b v (inr h) = elim h [ ]
-
-rif_default : (plan : Ports) (n : IfName) (r : Row) (on : Base) (v : Vrf) → IsIn (thing.Rif on v) (own_things plan (key.Intf n) r) → v ≡ vrf.Default
-rif_default plan n row.Intf on v h = let x = from_in (base_of plan n) (λ b. thing.Rif b vrf.Default ∷ []) (thing.Rif on v) h in rif_in on x.0 v x.2
-rif_default plan n _ on v h = elim h [ ]
-
 module _ (plan : Ports) (tables : TableLaws plan) where
   pub own-planned : (k : Key) (r : Row) (t : Thing) → Fits plan k r → IsIn t (own_things plan k r) → IsPlannedThing plan t
   own-planned k r (thing.Port p) fit h = port_planned plan k r p fit h
-  own-planned k r (thing.Rif on v) fit h =
-      let m = mapped (λ n. OfRow (key.Intf n)) (interface_on plan on) (OfRow k) (tables.own k r (thing.Rif on v) fit h) in
-      rif_default plan m.0 r on v (subst (λ z. IsIn (thing.Rif on v) (own_things plan z r)) (sym (intf_key m.0 k m.2)) h)
+  own-planned k r (thing.Rif on v) fit h = tt
   own-planned k r (thing.Route v prefix g) fit h = route_fits plan v prefix r (subst (λ z. Fits plan z r) (sym (route_key v prefix k (tables.own k r (thing.Route v prefix g) fit h))) fit)
   own-planned k r (thing.Vlan v) fit h = tt
   own-planned k r (thing.VirtualRouter label) fit h = tt
@@ -127,9 +101,7 @@ module _ (plan : Ports) (tables : TableLaws plan) where
 
   pub shared-planned : (o : Owner) (t : Thing) → IsIn t (shared_things o) → IsPlannedThing plan t
   shared-planned o (thing.Port p) h = absurd (shared_no_port o p h)
-  shared-planned o (thing.Rif on v) h =
-      let m = mapped (λ n. OfRow (key.Intf n)) (interface_on plan on) o (tables.shared o (thing.Rif on v) h) in
-      elim (subst (λ z. IsIn (thing.Rif on v) (shared_things z)) (sym m.2) h) [ ]
+  shared-planned o (thing.Rif on v) h = tt
   shared-planned o (thing.Route v prefix g) h = absurd (route_owner v prefix g o (tables.shared o (thing.Route v prefix g) h) h)
   shared-planned o (thing.Vlan v) h = tt
   shared-planned o (thing.VirtualRouter label) h = tt

@@ -19,7 +19,7 @@ use Rattle.sai_types.specs.declared.body.Entry.{Entry}
 use Rattle.sai_types.specs.After.{after_call, after_set, entry_of, with_attr}
 use Rattle.sai_types.specs.Made.{AreSorted, made_after, same_entry}
 use Rattle.sai_types.specs.Objects.{Objects, body_at, entry_cmp, kind_of, level, used}
-use Rattle.sai_types.specs.Refusal.{IsLegal, capacity_of, clash, create_refusal, first_refusal, refers_well}
+use Rattle.sai_types.specs.Refusal.{IsLegal, capacity_of, clash, create_refusal, first_refusal, refers_well, remove_refusal}
 use Rattle.sai_types.proofs.Found.{body_at-insert, body_at-remove}
 use Rattle.sai_types.proofs.Whole.{whole-after_call, whole-empty}
 use Rattle.sai_types.proofs.Legal.{first_of-none}
@@ -88,10 +88,14 @@ module _ (plan : Ports) (capacities : List ℕ) (made : ℕ) (objects : Objects)
       let most = used-set kind objects (made + 1) e a (body_at objects e) sorted refl in
       let fits = chip.fits kind in
       omega (arith, most, fits)
-  fits_by (call.Remove e) legal kind =
-      let most = used-taken kind objects (made + 1) e in
-      let fits = chip.fits kind in
-      omega (arith, most, fits)
+  fits_by (call.Remove e) legal kind = taken (body_at objects e) refl legal
+    where
+      taken : (o : Option (Body Rid)) → body_at objects e ≡ o → remove_refusal objects e o ≡ None → used (after_call (made + 1) objects (call.Remove e)) kind ≤ capacity_of capacities kind
+      taken None at h = absurd cc
+      taken (Some b) at h =
+          let most = used-taken kind objects (made + 1) e b at in
+          let fits = chip.fits kind in
+          omega (arith, most, fits)
 
   pub chip-call : (c : Call Rid) → IsLegal capacities objects c → IsPlannedCall plan c → IsPlannedChip plan capacities (made_after made c) (after_call (made + 1) objects c)
   chip-call c legal new = record {

@@ -14,6 +14,7 @@ use Rattle.chip_layout.specs.Layout.{IsLaidOut, listed}
 use Rattle.switch_machine.specs.Flights.{Machine}
 use Rattle.switch_machine.specs.Events.{IsSafe, IsQuiet}
 use Rattle.switch_machine.proofs.Runs.{alike-quiet}
+use Rattle.machine_laws.proofs.Rows.{thing_same}
 use Rattle.plan_laws.specs.Applied.{AppliesHitless}
 use Rattle.sai_types.specs.declared.plan.Mode.TheVariants as mode
 use Rattle.restart_laws.specs.Planned.{IsPlannedAs, PlansHitless}
@@ -24,6 +25,7 @@ use Rattle.table_schema.specs.declared.key.Key.{Key}
 use Rattle.table_schema.specs.declared.write.Sent.{Sent}
 use Rattle.switch_model.specs.Good.{TypedRows}
 use Rattle.switch_model.specs.Marks.{sent_writes}
+use Rattle.switch_model.specs.Placed.{bare_rows}
 use Rattle.switch_model.specs.Promises.{applied_at}
 use Rattle.switch_model.specs.declared.mark.Mark.{Mark}
 use Rattle.restart_laws.specs.Service.{OfApply, AreApplying, AreServiceEvents, OfFinish, Finishes, OfFault, OfListFault, IsDue, IsServiceEvent, OfList, OfFlight, OfPlan, OfRestart, Restarts, OfRestore, Restores, Service, OfTake, TakesIn, OfWork, service_after, by_ids}
@@ -38,7 +40,7 @@ use Rattle.restart_laws.proofs.Viewing.{thing-planned, view-is}
 
 module _ (plan : Ports) (is : IsPlan plan) (workers : ℕ) (capacities : List ℕ) (s : Service) (h : Holds plan workers capacities s) where
   -- the calls that are left lead to a chip that is alike to the things of the applied rows
-  pub left-alike : s.warm ≡ Applying → IsAlike (after_calls s.core.made s.core.objects s.left) (IsThingOf plan s.core.machine.board.applied)
+  pub left-alike : s.warm ≡ Applying → IsAlike (after_calls s.core.made s.core.objects s.left) (IsThingOf plan (bare_rows s.core.machine.board.applied))
   left-alike at =
       let a = in_state plan is workers capacities s Applying h at in
       let made = made_after_all s.core.made s.left in
@@ -69,8 +71,8 @@ module _ (plan : Ports) (is : IsPlan plan) (workers : ℕ) (capacities : List �
       )
 
   -- and then the chip is alike to the things of the applied rows
-  pub ended-alike : s.warm ≡ Applying → s.left ≡ [] → IsAlike s.core.objects (IsThingOf plan s.core.machine.board.applied)
-  ended-alike at none = subst (λ z. IsAlike (after_calls s.core.made s.core.objects z) (IsThingOf plan s.core.machine.board.applied)) none (left-alike at)
+  pub ended-alike : s.warm ≡ Applying → s.left ≡ [] → IsAlike s.core.objects (IsThingOf plan (bare_rows s.core.machine.board.applied))
+  ended-alike at none = subst (λ z. IsAlike (after_calls s.core.made s.core.objects z) (IsThingOf plan (bare_rows s.core.machine.board.applied))) none (left-alike at)
 
   -- each call of a hitless plan is steady
   module _ (t : Service) (x : Restores plan workers capacities s t) where
@@ -125,8 +127,8 @@ suspect-silent plan workers capacities s t _ at (OfFinish _ x) = apart Suspect A
 -- the view of other rows that agree key by key
 pub alike-rows : (plan : Ports) (objects : Objects) (rows other : TypedRows) → ((q : Key) → other q ≡ rows q) → IsAlike objects (IsThingOf plan rows) → IsAlike objects (IsThingOf plan other)
 alike-rows plan objects rows other same x = record {
-  each = λ t h. let y = x.each t h in (y.0, y.1, (y.2.0, y.2.1, same y.2.0 ∙ y.2.2, y.2.3));
-  once = λ t h. x.once t (h.0, h.1, sym (same h.0) ∙ h.2, h.3);
+  each = λ t h. let y = x.each t h in (y.0, y.1, thing_same plan rows other (λ q. sym (same q)) y.0 y.2);
+  once = λ t h. x.once t (thing_same plan other rows same t h);
 }
 
 -- at the end of an apply the chip is alike to the things of the rows that were applied at its beginning
@@ -136,6 +138,6 @@ ended-begun plan is workers capacities s t u x es taken mark h all run end same 
     let last = holds-run plan is workers capacities t es first run in
     let alike = ended-alike plan is workers capacities (service_after t es) last end.before end.none in
     let machine : (service_after t es).core.machine ≡ x.view.machine = applying-run plan workers capacities t es x.warm all run ∙ x.machine in
-    alike-rows plan u.core.objects x.view.machine.board.applied (applied_at plan taken mark (waiting_of x.restored.waits)) (same_rows plan is workers capacities s.core.written x.view h.safe.told h.safe.dated x.restored taken mark same)
-    (subst (λ z. IsAlike z (IsThingOf plan x.view.machine.board.applied)) (sym end.objects)
-    (subst (λ (z : Machine). IsAlike (service_after t es).core.objects (IsThingOf plan z.board.applied)) machine alike))
+    alike-rows plan u.core.objects (bare_rows x.view.machine.board.applied) (applied_at plan taken mark (waiting_of x.restored.waits)) (same_rows plan is workers capacities s.core.written x.view h.safe.told h.safe.dated x.restored taken mark same)
+    (subst (λ z. IsAlike z (IsThingOf plan (bare_rows x.view.machine.board.applied))) (sym end.objects)
+    (subst (λ (z : Machine). IsAlike (service_after t es).core.objects (IsThingOf plan (bare_rows z.board.applied))) machine alike))

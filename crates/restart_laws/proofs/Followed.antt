@@ -17,7 +17,7 @@ use Rattle.switch_model.specs.Good.{TypedRows}
 use Rattle.switch_model.specs.History.{History}
 use Rattle.switch_model.specs.Marks.{applied_rows}
 use Rattle.switch_model.specs.Promises.{applied_at}
-use Rattle.switch_model.specs.Room.{FitsTogether}
+use Rattle.switch_model.specs.Room.{FitsTogether, HasSameRouters}
 use Rattle.switch_model.specs.Sound.{AreWithin}
 use Rattle.switch_model.specs.Steady.{IsSteady, things_after}
 use Rattle.switch_model.specs.declared.mark.Mark.{Mark}
@@ -62,7 +62,8 @@ module _ (plan : Ports) (is : IsPlan plan) (workers : ℕ) (capacities : List �
       let size = ap (λ (o : Objects). length o) same in
       record {
         hitless = λ e. subst (λ o. FitsTogether capacities o (IsThingOf plan rows)) (sym same) (x.hitless e);
-        fitting = λ fits. x.fitting (subst (λ o. FitsTogether capacities o (IsThingOf plan rows)) same fits);
+        routers = λ e. subst (λ o. HasSameRouters o (IsThingOf plan rows)) (sym same) (x.routers e);
+        fitting = λ fits routers. x.fitting (subst (λ o. FitsTogether capacities o (IsThingOf plan rows)) same fits) (subst (λ o. HasSameRouters o (IsThingOf plan rows)) same routers);
         view = x.view;
         into = x.into;
         back = x.back;

@@ -1,5 +1,5 @@
 -- the calls of a plan, hitless or cold, from a chip that was listed lead to the things of the view
-use Rattle.std.proofs.Common.{◌≡◌, ◌+◌, ◌++◌, ◌≤◌, ◌∷◌, ◌∙◌, inl, inr, ℕ, length, true, List, [], refl, sym, ap, subst}
+use Rattle.std.proofs.Common.{◌≡◌, ◌+◌, ◌++◌, ◌≤◌, ◌∷◌, inl, inr, ℕ, length, true, List, [], refl, sym, ap, subst}
 use Rattle.std.proofs.lemmas.List.{append-nil}
 use Rattle.table_schema.specs.Plan.{Ports, IsPlan}
 use Rattle.sai_types.specs.declared.ids.Rid.{Rid}
@@ -28,7 +28,7 @@ use Rattle.plan_laws.specs.Applied.{AppliesCold, AppliesHitless, IsListedChip, I
 use Rattle.plan_laws.specs.Moments.{attr_place, MakesChange, MakesChanges, SetsThing, layout_after}
 use Rattle.plan_laws.specs.Old.{old_layout, old_things, tag_of}
 use Rattle.plan_laws.specs.Plans.{PlanChange, Make, Set, Remove}
-use Rattle.plan_laws.specs.Views.{PortsApart, SameRouters, made_names}
+use Rattle.plan_laws.specs.Views.{PortsApart, made_names}
 use Rattle.plan_laws.proofs.Applied.{hitless-end, plan-safe}
 use Rattle.plan_laws.proofs.Cold.{cold-end, cold-legal, makes-safe}
 use Rattle.plan_laws.proofs.Rooms.{fits-room}
@@ -141,10 +141,6 @@ module _ (plan : Ports) (is : IsPlan plan) {capacities : List ℕ} {made : ℕ} 
         let x = old-seen chip-listed new t i in
         let s = x.1 in
         by-body plan (old_layout objects new) t s.body (body-seen (tag_of objects new) made objects chip.whole s.entry s.body t s.found s.thing) (chip.planned s.entry s.body s.found)
-
-    -- no interface has to move: all are in the default router
-    pub routers-same : SameRouters (old_things objects new) new
-    routers-same on v w i j = listed_planned (thing.Rif on v) i ∙ sym (new_planned (thing.Rif on w) j)
 
     ports_apart : (others : List Thing) → ((t : Thing) → IsIn t others → IsPlannedThing plan t) → PortsApart new others
     ports_apart others planned p q i j share = lanes_by p q (new_planned (thing.Port p) i) (planned (thing.Port q) j) share

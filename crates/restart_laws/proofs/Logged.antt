@@ -17,6 +17,7 @@ use Rattle.switch_model.specs.Desired.{IsThingOf}
 use Rattle.switch_model.specs.Good.{TypedRows}
 use Rattle.switch_model.specs.History.{History, with_end, with_mark, with_write}
 use Rattle.switch_model.specs.Marks.{Waiting, applied_rows, sent_writes}
+use Rattle.switch_model.specs.Placed.{bare_rows}
 use Rattle.switch_model.specs.Promises.{AreTrueMarks, EndsApply, IsEnded, IsTrueMark, MarksAreTrue, applied_at}
 use Rattle.switch_model.specs.Sound.{AreWithin}
 use Rattle.switch_model.specs.declared.mark.Mark.{Mark}
@@ -103,7 +104,7 @@ module _ (plan : Ports) (is : IsPlan plan) (workers : ℕ) (capacities : List �
     pub last : last_mark None s.log.marks ≡ Some mark
     pub event_is : mark.event ≡ event.ApplyBegan mode waits
     pub least : mark.taken ≤ length s.log.taken
-    pub rows : (q : Key) → applied_at plan s.log.taken mark waits q ≡ s.service.core.machine.board.applied q
+    pub rows : (q : Key) → applied_at plan s.log.taken mark waits q ≡ bare_rows s.service.core.machine.board.applied q
 
   pub record IsToldLog (s : LoggedService) : Type 0 where
     pub holds : Holds plan workers capacities s.service
@@ -192,7 +193,7 @@ module _ (plan : Ports) (is : IsPlan plan) (workers : ℕ) (capacities : List �
           last = b.last;
           event_is = b.event_is;
           least = omega (arith, b.least, length-append s.log.taken (sent ∷ []));
-          rows = λ q. ap (λ (g : TypedRows). applied_rows b.waits g q) (good-front plan s.log.taken sent b.mark.taken b.least) ∙ b.rows q ∙ ap (λ (z : Machine). z.board.applied q) (sym x.core.machine);
+          rows = λ q. ap (λ (g : TypedRows). applied_rows b.waits g q) (good-front plan s.log.taken sent b.mark.taken b.least) ∙ b.rows q ∙ ap (λ (z : Machine). bare_rows z.board.applied q) (sym x.core.machine);
         };
       })
   told_service s t _ (OfWork c _ x) told effects records = absurd records
@@ -236,7 +237,7 @@ module _ (plan : Ports) (is : IsPlan plan) (workers : ℕ) (capacities : List �
         last = last-more None s.log.marks mark;
         event_is = refl;
         least = omega arith;
-        rows = λ q. same_rows plan is workers capacities s.service.core.written x.view told.holds.safe.told told.holds.safe.dated x.restored s.log.taken mark same q ∙ ap (λ (z : Machine). z.board.applied q) (sym x.machine);
+        rows = λ q. same_rows plan is workers capacities s.service.core.written x.view told.holds.safe.told told.holds.safe.dated x.restored s.log.taken mark same q ∙ ap (λ (z : Machine). bare_rows z.board.applied q) (sym x.machine);
       }))
   told_service s t _ (OfApply call _ x) told effects records =
       back t s.log (s.effects ++ call ∷ []) records effects (record {
@@ -244,7 +245,7 @@ module _ (plan : Ports) (is : IsPlan plan) (workers : ℕ) (capacities : List �
         tells = more_call s.service.core t.service.core s.log s.effects call (due-legal plan is workers capacities s.service call told.holds (OfPlan t.service.left x.before x.next)).0 (ap (λ (z : Written). z.taken) x.written) x.objects x.made told.tells;
         warm = subst (IsWarmAfter (last_mark None s.log.marks)) (x.before ∙ sym x.warm) told.warm;
         ordered = told.ordered;
-        begun = λ at. let b = told.begun x.before in record { mark = b.mark; mode = b.mode; waits = b.waits; last = b.last; event_is = b.event_is; least = b.least; rows = λ q. b.rows q ∙ ap (λ (z : Machine). z.board.applied q) (sym x.machine) };
+        begun = λ at. let b = told.begun x.before in record { mark = b.mark; mode = b.mode; waits = b.waits; last = b.last; event_is = b.event_is; least = b.least; rows = λ q. b.rows q ∙ ap (λ (z : Machine). bare_rows z.board.applied q) (sym x.machine) };
       })
   told_service s t _ (OfFinish _ x) told effects records =
       adds s t s.effects event.ApplyEnded (no_call s t effects) records
@@ -260,7 +261,7 @@ module _ (plan : Ports) (is : IsPlan plan) (workers : ℕ) (capacities : List �
       ended =
           subst (EndsApply plan s.log.taken s.effects (mark_now s.log s.effects event.ApplyEnded) b.mark) (sym b.event_is)
           (subst (λ o. IsAlike o (IsThingOf plan (applied_at plan s.log.taken b.mark b.waits))) (told.tells.objects ∙ sym (chip_after-all s.effects))
-          (alike-rows plan s.service.core.objects s.service.core.machine.board.applied (applied_at plan s.log.taken b.mark b.waits) b.rows (ended-alike plan is workers capacities s.service told.holds x.before x.none)))
+          (alike-rows plan s.service.core.objects (bare_rows s.service.core.machine.board.applied) (applied_at plan s.log.taken b.mark b.waits) b.rows (ended-alike plan is workers capacities s.service told.holds x.before x.none)))
 
   -- ---- the events of the machine
 

@@ -1,5 +1,5 @@
 -- what a row names comes before it in key order
-use Rattle.std.proofs.Common.{◌≡◌, ◌∷◌, ◌∙◌, inl, inr, ℕ, List, [], map, sym, ap, Ordering}
+use Rattle.std.proofs.Common.{◌≡◌, ◌⊎◌, ◌∷◌, ◌∙◌, inl, inr, ℕ, List, [], map, sym, ap, Ordering}
 use Rattle.std.specs.Ordering.{ordering_reverse}
 use Rattle.std.specs.List.{AllByRecursion}
 use Rattle.std.specs.List.Sorted.{IsStrictlySortedBy}
@@ -9,7 +9,7 @@ use Rattle.swss_types.specs.declared.interface.IfName.TheVariants as ifname
 use Rattle.swss_types.specs.declared.vrf.Vrf.{Vrf}
 use Rattle.swss_types.specs.declared.vrf.Vrf.TheVariants as vrf
 use Rattle.table_schema.specs.Key.{key_cmp}
-use Rattle.table_schema.specs.Names.{base_names, names_of, names_of_route}
+use Rattle.table_schema.specs.Names.{base_names, names_of, names_of_intf, names_of_route, router_names}
 use Rattle.table_schema.specs.declared.key.Key.{Key}
 use Rattle.table_schema.specs.declared.key.Key.TheVariants as key
 use Rattle.table_schema.specs.declared.row.Row.{Row}
@@ -19,6 +19,7 @@ use Rattle.table_schema.specs.declared.row_hop.RowHop.{RowHop}
 use Rattle.table_schema.proofs.Keys.{key_total}
 use Rattle.swss_types.specs.declared.address.Prefix.{Prefix}
 use Rattle.sai_types.specs.Alike.{IsIn}
+use Rattle.sai_types.proofs.Membership.{in-either}
 
 hop_key_below : (v : Vrf) (prefix : Prefix) (p : Key) (hops : List (RowHop × ℕ)) → IsIn p (map (λ (h : RowHop × ℕ). key.Neigh h.0.on h.0.ip) hops) → key_cmp p (key.Route v prefix) ≡ Less
 hop_key_below v prefix p [] h = elim h [ ]
@@ -39,6 +40,19 @@ base_below (ifname.Vlan vlan) p (inl e) = ap (λ z. key_cmp z (key.Intf (ifname.
 base_below (ifname.Vlan vlan) p (inr h) = elim h [ ]
 base_below (ifname.Loopback n) p h = elim h [ ]
 
+router_below : (on : IfName) (v : Vrf) (p : Key) → IsIn p (router_names v) → key_cmp p (key.Intf on) ≡ Less
+router_below on vrf.Default p h = elim h [ ]
+router_below on (vrf.Named n) p (inl e) = ap (λ z. key_cmp z (key.Intf on)) e
+router_below on (vrf.Named n) p (inr h) = elim h [ ]
+
+intf_below : (on : IfName) (r : Row) (p : Key) → IsIn p (names_of_intf on r) → key_cmp p (key.Intf on) ≡ Less
+intf_below on (row.Intf v) p h = by (in-either p (base_names on) (router_names v) h)
+  where
+    by : IsIn p (base_names on) ⊎ IsIn p (router_names v) → key_cmp p (key.Intf on) ≡ Less
+    by (inl i) = base_below on p i
+    by (inr i) = router_below on v p i
+intf_below on _ p h = base_below on p h
+
 pub names-below : (k p : Key) (r : Row) → IsIn p (names_of k r) → key_cmp p k ≡ Less
 names-below (key.Port port) p r h = elim h [ ]
 names-below (key.Vlan vlan) p r h = elim h [ ]
@@ -46,7 +60,7 @@ names-below (key.Vrf n) p r h = elim h [ ]
 names-below (key.Member vlan port) p r (inl e) = ap (λ z. key_cmp z (key.Member vlan port)) e
 names-below (key.Member vlan port) p r (inr (inl e)) = ap (λ z. key_cmp z (key.Member vlan port)) e
 names-below (key.Member vlan port) p r (inr (inr h)) = elim h [ ]
-names-below (key.Intf on) p r h = base_below on p h
+names-below (key.Intf on) p r h = intf_below on r p h
 names-below (key.Addr on ip len) p r (inl e) = ap (λ z. key_cmp z (key.Addr on ip len)) e
 names-below (key.Addr on ip len) p r (inr h) = elim h [ ]
 names-below (key.Neigh on ip) p r (inl e) = ap (λ z. key_cmp z (key.Neigh on ip)) e

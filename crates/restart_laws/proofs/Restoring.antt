@@ -1,5 +1,5 @@
 -- after one pass: what waits is not applied and has its true reason, and every other key has its good row
-use Rattle.std.proofs.Common.{◌≡◌, ◌⊎◌, ◌∷◌, ◌∙◌, inl, inr, ℕ, List, [], None, Some, refl, sym, ap, subst}
+use Rattle.std.proofs.Common.{◌≡◌, ◌⊎◌, ◌∷◌, ◌∙◌, inl, inr, ℕ, List, [], None, Some, option_map, refl, sym, ap, subst}
 use Rattle.std.specs.List.Sorted.{IsStrictlySortedBy}
 use Rattle.std.specs.declared.cmp.Ordering.TheVariants.{Less}
 use Rattle.std.proofs.lemmas.Map.Keys.{sorted_tail}
@@ -14,14 +14,17 @@ use Rattle.sai_types.specs.Alike.{IsIn}
 use Rattle.switch_model.specs.Desired.{IsClosed}
 use Rattle.switch_model.specs.Good.{TypedRows, good_row}
 use Rattle.switch_model.specs.Marks.{IsTrueReason}
+use Rattle.switch_model.specs.Placed.{bare, bare_rows, router_in}
 use Rattle.switch_model.specs.declared.wait.Wait.{Wait}
-use Rattle.switch_machine.specs.Events.{AreAnswers, SwitchState, IsSafe, IsQuiet, after_answers, fresh_view}
+use Rattle.switch_machine.specs.Events.{AreAnswers, SwitchState, IsSafe, IsQuiet, after_answers, fresh_view, placed_good}
 use Rattle.switch_machine.specs.Steps.{with_row}
 use Rattle.switch_machine.specs.Consistent.{IsCurrent}
 use Rattle.switch_machine.specs.Written.{Written, good_of}
+use Rattle.switch_machine.proofs.Placing.{bares}
 use Rattle.switch_machine.proofs.Reasoned.{closed, reason-true}
 use Rattle.switch_machine.proofs.Solo.{solo-key}
 use Rattle.switch_machine.proofs.Splits.{IsSplit, key_split, row_at, row_off}
+use Rattle.machine_laws.proofs.Rows.{bare_with}
 use Rattle.restart_laws.specs.Restored.{IsAlone, IsBrought, IsPass, IsRestored, keys_waiting}
 use Rattle.restart_laws.proofs.Passing.{alone-keeps, drops-quiet, restored-fresh, restored-keeps}
 use Rattle.restart_laws.proofs.Order.{above, names-below, not-both, not-self}
@@ -39,14 +42,20 @@ module _ (plan : Ports) (is : IsPlan plan) (workers : ℕ) (capacities : List �
   alone_written : (s t : SwitchState) (k : Key) → IsAlone plan workers capacities s k t → t.written ≡ s.written
   alone_written s t k x = ap (λ (z : SwitchState). z.written) x.ends ∙ answers_written x.first x.answers x.run ∙ x.starting.written
 
-  alone_rows : (s t : SwitchState) (k : Key) → IsQuiet s → (x : IsAlone plan workers capacities s k t) (q : Key) → t.machine.board.applied q ≡ with_row k (good_of plan s.written k) s.machine.board.applied q
-  alone_rows s t k quiet x q =
-      ap (λ (z : SwitchState). z.machine.board.applied q) x.ends
-      ∙ solo-key plan workers capacities s x.first x.starting x.answers quiet x.run (subst IsQuiet x.ends x.quiet) q
-      ∙ ap (λ z. with_row z (good_of plan s.written z) s.machine.board.applied q) x.is
-
+  -- the rows that are applied, as the tables have them
   abbrev applied : SwitchState → TypedRows
-  applied s = s.machine.board.applied
+  applied s = bare_rows s.machine.board.applied
+
+  alone_rows : (s t : SwitchState) (k : Key) → IsQuiet s → (x : IsAlone plan workers capacities s k t) (q : Key) → applied t q ≡ with_row k (good_of plan s.written k) (applied s) q
+  alone_rows s t k quiet x q =
+      ap (λ (z : SwitchState). applied z q) x.ends
+      ∙ ap (option_map bare) (solo-key plan workers capacities s x.first x.starting x.answers quiet x.run (subst IsQuiet x.ends x.quiet) q)
+      ∙ bare_with own (placed_good plan s.machine.board s.written own) s.machine.board.applied q
+      ∙ ap (λ o. with_row own o (applied s) q) (bares (router_in (applied s) own) (good_of plan s.written own))
+      ∙ ap (λ z. with_row z (good_of plan s.written z) (applied s) q) x.is
+    where
+      own : Key
+      own = x.starting.flight.key
 
   brings_kept : (s mid : SwitchState) (k : Key) → IsSafe plan workers capacities s → IsQuiet s → IsBrought plan workers capacities s k mid → IsSafe plan workers capacities mid × IsQuiet mid
   brings_kept s mid k kept quiet (inl x) = (kept_drops plan is workers capacities s mid kept x.0, drops-quiet plan is workers capacities s mid quiet x.0)
@@ -57,16 +66,16 @@ module _ (plan : Ports) (is : IsPlan plan) (workers : ℕ) (capacities : List �
   brings_written s mid k (inr x) = alone_written s mid k x
 
   brings_other : (s mid : SwitchState) (k q : Key) → IsQuiet s → IsBrought plan workers capacities s k mid → (k ≡ q → ⊥) → applied mid q ≡ applied s q
-  brings_other s mid k q quiet (inl x) other = ap (λ (z : Machine). z.board.applied q) x.0.machine
+  brings_other s mid k q quiet (inl x) other = ap (λ (z : Machine). bare_rows z.board.applied q) x.0.machine
   brings_other s mid k q quiet (inr x) other = alone_rows s mid k quiet x q ∙ row_off k q (good_of plan s.written k) (applied s) other
 
   brings_good : (s mid : SwitchState) (k : Key) → IsQuiet s → IsBrought plan workers capacities s k mid → applied mid k ≡ good_of plan s.written k
-  brings_good s mid k quiet (inl x) = ap (λ (z : Machine). z.board.applied k) x.0.machine ∙ subst (λ z. applied s z ≡ good_of plan s.written z) x.1 x.0.same
+  brings_good s mid k quiet (inl x) = ap (λ (z : Machine). bare_rows z.board.applied k) x.0.machine ∙ subst (λ z. applied s z ≡ good_of plan s.written z) x.1 x.0.same
   brings_good s mid k quiet (inr x) = alone_rows s mid k quiet x k ∙ row_at k k (good_of plan s.written k) (applied s) refl
 
   -- the pass touches its own keys alone
   pass_other : (s t : SwitchState) (ks : List Key) (waits : List (Key × Wait)) (q : Key) → IsSafe plan workers capacities s → IsQuiet s → IsPass plan workers capacities s ks waits t → (IsIn q ks → ⊥) → applied t q ≡ applied s q
-  pass_other s t [] waits q kept quiet x other = ap (λ (z : SwitchState). z.machine.board.applied q) x.1
+  pass_other s t [] waits q kept quiet x other = ap (λ (z : SwitchState). applied z q) x.1
   pass_other s t (k ∷ ks) waits q kept quiet (inl x) other = pass_other s t ks x.0.rest q kept quiet x.1 (λ h. other (inr h))
   pass_other s t (k ∷ ks) waits q kept quiet (inr (mid, x, rest)) other =
       let y = brings_kept s mid k kept quiet x in
@@ -115,7 +124,7 @@ module _ (plan : Ports) (is : IsPlan plan) (workers : ℕ) (capacities : List �
         key = inl refl;
         absent = pass_other s t ks x.0.rest k kept quiet x.1 (λ i. not-self k k (above k k ks sorted i) refl) ∙ none k (inl refl);
         reason = subst (λ z. IsTrueReason plan capacities (good_of plan z) (applied t) k x.0.wait) (sym (pass_written s t ks x.0.rest x.1))
-            (reason-stays plan capacities (good_of plan s.written) (good_of plan s.written) (applied s) (applied t) k x.0.wait (none k (inl refl)) refl same
+            (reason-stays plan capacities (good_of plan s.written) (good_of plan s.written) (applied s) (applied t) k x.0.wait (closed plan is workers capacities s kept) (none k (inl refl)) refl same
             (pass_grows s t ks x.0.rest kept quiet x.1 (λ q i. none q (inr i)))
             (reason-true plan is workers capacities s kept quiet k x.0.wait x.0.reason));
       }

@@ -18,6 +18,7 @@ use Rattle.sai_types.specs.Made.{made_after_all}
 use Rattle.sai_types.specs.Named.{named}
 use Rattle.chip_layout.proofs.Answering.{in_those, those_in}
 use Rattle.switch_model.specs.History.{History}
+use Rattle.switch_model.specs.Placed.{place}
 use Rattle.switch_model.specs.Promises.{EffectsAreLegal, RoutesAreOfRows, good_rows_at}
 use Rattle.switch_model.specs.Things.{things_of}
 use Rattle.switch_machine.specs.Events.{with_made_call}
@@ -49,7 +50,7 @@ module _ (plan : Ports) (is : IsPlan plan) (workers : ℕ) (capacities : List �
   AreRouted taken es = (j : ℕ) → j ≤ length es → RoutesAreOfRows plan taken (chip_after es j)
 
   abbrev HasRow : List Sent → Vrf → Prefix → Goal → Type 0
-  HasRow taken v prefix goal = (n : ℕ) × (row : Row) × (n ≤ length taken) × (good_rows_at plan taken n (key.Route v prefix) ≡ Some row) × IsIn (thing.Route v prefix goal) (things_of plan (key.Route v prefix) row)
+  HasRow taken v prefix goal = (n : ℕ) × (row : Row) × (n ≤ length taken) × (good_rows_at plan taken n (key.Route v prefix) ≡ Some row) × IsIn (thing.Route v prefix goal) (things_of plan (key.Route v prefix) (place v row))
 
   -- after one more call of a plan, whether it was answered so or not
   apply_routes : (s : LoggedService) (call : Call Rid) (rest : List (Call Rid)) → Told s → Under s → AreRouted s.log.taken s.effects → s.service.warm ≡ Applying → s.service.left ≡ call ∷ rest → RoutesAreOfRows plan s.log.taken (after_calls 0 [] (s.effects ++ call ∷ []))

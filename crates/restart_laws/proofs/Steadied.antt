@@ -13,6 +13,7 @@ use Rattle.sai_types.specs.declared.kind.Kind.{Kind}
 use Rattle.sai_types.specs.declared.plan.Mode.{Mode}
 use Rattle.sai_types.specs.declared.plan.Mode.TheVariants as mode
 use Rattle.sai_types.specs.declared.thing.Thing.{Thing}
+use Rattle.sai_types.specs.declared.thing.Thing.TheVariants as thing
 use Rattle.sai_types.specs.After.{after_calls, chip_after}
 use Rattle.sai_types.specs.Alike.{IsIn}
 use Rattle.sai_types.specs.Forwarding.{decide, forward}
@@ -27,22 +28,25 @@ use Rattle.chip_layout.proofs.Answering.{in_those, those_in}
 use Rattle.row_layout.proofs.Split.{things-split}
 use Rattle.switch_model.specs.Desired.{IsThingOf}
 use Rattle.switch_model.specs.Good.{TypedRows}
+use Rattle.switch_model.specs.Placed.{bare_rows}
 use Rattle.switch_model.specs.Promises.{applied_at}
-use Rattle.switch_model.specs.Room.{FitsTogether}
+use Rattle.switch_model.specs.Room.{FitsTogether, HasSameRouters}
 use Rattle.switch_model.specs.Steady.{IsSteady, things_after}
 use Rattle.switch_machine.specs.Events.{IsQuiet, IsSafe}
 use Rattle.switch_machine.specs.Flights.{StandsIn}
 use Rattle.switch_machine.proofs.Calling.{sort_of}
+use Rattle.switch_machine.proofs.Placing.{row_of_thing}
 use Rattle.switch_machine.proofs.Resting.{back_by, into_by}
 use Rattle.switch_machine.proofs.Tabled.{tabled}
 use Rattle.switch_machine.proofs.Overflowing.{counted_distinct, marked_distinct}
+use Rattle.machine_laws.proofs.Rows.{thing_same}
 use Rattle.plan_laws.specs.Applied.{AppliesHitless, IsListedChip, IsView, chip_things, nothing}
 use Rattle.plan_laws.specs.Old.{old_layout}
 use Rattle.plan_laws.specs.Bounds.{IsUnwanted, makes_kind}
 use Rattle.plan_laws.specs.Views.{AreLacking, made_names}
 use Rattle.plan_laws.proofs.Applied.{hitless-kept, hitless-steady}
 use Rattle.plan_laws.proofs.Counts.{calls-few, calls-named, old-few, run-makes}
-use Rattle.plan_laws.proofs.Doubles.{fits-shown, lacking-shown, shown-lacking}
+use Rattle.plan_laws.proofs.Doubles.{fits-shown, lacking-shown, routers-shown, routers-shown-back, shown-lacking}
 use Rattle.plan_laws.proofs.Keeping.{hitless-removes}
 use Rattle.plan_laws.proofs.Rooms.{made-lacking}
 use Rattle.restart_laws.specs.Applied.{IsSteadyApply}
@@ -54,10 +58,10 @@ use Rattle.restart_laws.specs.Service.{Restores, Service}
 use Rattle.restart_laws.proofs.Begun.{same_rows}
 use Rattle.restart_laws.proofs.Ended.{hitless-applies, hitless-planned}
 use Rattle.restart_laws.proofs.Holding.{planned-from}
-use Rattle.restart_laws.proofs.Leading.{chip-listed, routers-same}
+use Rattle.restart_laws.proofs.Leading.{chip-listed}
 use Rattle.restart_laws.proofs.Passing.{restored-keeps}
 use Rattle.restart_laws.proofs.Underway.{IsUnderWay, chip-at}
-use Rattle.restart_laws.proofs.Viewing.{in-things, thing-planned, things-in, view-is}
+use Rattle.restart_laws.proofs.Viewing.{in-things, things-in, view-is}
 
 cut_list : {X : Type 0} (n : ℕ) (xs : List X) → n ≤ length xs → (ys : List X) × (zs : List X) × (xs ≡ ys ++ zs) × (length ys ≡ n)
 cut_list zero xs le = ([], xs, refl, refl)
@@ -83,18 +87,18 @@ module _ (plan : Ports) (is : IsPlan plan) (workers : ℕ) (capacities : List �
   chip : IsListedChip s.core.made objects
   chip = chip-listed plan is h.safe.chip
 
-  module _ (rows : TypedRows) (same : (q : Key) → rows q ≡ x.view.machine.board.applied q) where
+  module _ (rows : TypedRows) (same : (q : Key) → rows q ≡ bare_rows x.view.machine.board.applied q) where
     into : (u : Thing) → IsThingOf plan rows u → IsIn u new
     into u y =
-        let z = back_by plan (tabled plan is) x.view.machine kept.0.sound kept.1 u y.0 y.1 (sym (same y.0) ∙ y.2) ((things-split plan y.0 y.1).into u y.3) in
+        let r = row_of_thing plan x.view.machine.board kept.0.sound.board u (thing_same plan rows (bare_rows x.view.machine.board.applied) same u y) in
+        let z = back_by plan (tabled plan is) x.view.machine kept.0.sound kept.1 u r.0 r.1 r.2 ((things-split plan r.0 r.1).into u r.3) in
         in-things x.view.machine.stands z.0 u z.1
 
     back : (u : Thing) → IsIn u new → IsThingOf plan rows u
     back u i =
         let z : StandsIn x.view.machine u = things-in x.view.machine.stands u i in
         let o = kept.0.sound.owned u z in
-        let y = into_by plan (tabled plan is) x.view.machine kept.0.sound kept.1 u z o.0 o.1 (sort_of o.0) in
-        (y.0, y.1, same y.0 ∙ y.2, y.3)
+        thing_same plan (bare_rows x.view.machine.board.applied) rows (λ q. sym (same q)) u (into_by plan (tabled plan is) x.view.machine kept.0.sound kept.1 u z o.0 o.1 (sort_of o.0))
 
     -- the mode, exactly
     fits_when : x.mode ≡ mode.Hitless → FitsTogether capacities objects (IsThingOf plan rows)
@@ -106,8 +110,11 @@ module _ (plan : Ports) (is : IsPlan plan) (workers : ℕ) (capacities : List �
           each = λ k i. let y = a.things k i in (ap (λ z. level (name_kind z)) (sym y.1) ∙ y.2, y.0, into y.0 y.3.0, y.1, λ u j e. y.3.1 (u, those_in u (named objects) j, e ∙ sym y.1));
         }
 
-    hitless_when : FitsTogether capacities objects (IsThingOf plan rows) → x.mode ≡ mode.Hitless
-    hitless_when fits = by x.mode (planned-from plan is workers capacities s t h x)
+    routers_when : x.mode ≡ mode.Hitless → HasSameRouters objects (IsThingOf plan rows)
+    routers_when hitless on v w i y = routers-shown-back chip new view (hitless-planned plan is workers capacities s h t x hitless).routers on v w (in_those (thing.Rif on v) (named objects) i) (into (thing.Rif on w) y)
+
+    hitless_when : FitsTogether capacities objects (IsThingOf plan rows) → HasSameRouters objects (IsThingOf plan rows) → x.mode ≡ mode.Hitless
+    hitless_when fits routers = by x.mode (planned-from plan is workers capacities s t h x)
       where
         lacking : (kind : Kind) (names : List ThingName) → AreLacking (chip_things objects) new kind names → used objects kind + length names ≤ capacity_of capacities kind
         lacking kind names l = fits kind names (record {
@@ -117,7 +124,7 @@ module _ (plan : Ports) (is : IsPlan plan) (workers : ℕ) (capacities : List �
 
         by : (m : Mode) → IsPlannedAs m capacities s.core.made objects new t.left → m ≡ mode.Hitless
         by mode.Hitless p = refl
-        by mode.Cold p = absurd (p.lacks (fits-shown chip new view capacities lacking) (routers-same plan is h.safe.chip new (thing-planned plan is workers capacities x.view kept.0 kept.1) view))
+        by mode.Cold p = absurd (p.lacks (fits-shown chip new view capacities lacking) (routers-shown chip new view (λ on v w i j. routers on v w (those_in (thing.Rif on v) (named objects) i) (back (thing.Rif on w) j))))
 
     -- what it makes and removes
     abbrev Applies : x.mode ≡ mode.Hitless → Type 0
@@ -178,7 +185,7 @@ module _ (plan : Ports) (is : IsPlan plan) (workers : ℕ) (capacities : List �
   abbrev pub rows : TypedRows
   rows = applied_at plan s.log.taken u.mark (waiting_of x.restored.waits)
 
-  same : (q : Key) → rows q ≡ x.view.machine.board.applied q
+  same : (q : Key) → rows q ≡ bare_rows x.view.machine.board.applied q
   same q = same_rows plan is workers capacities first.core.written x.view u.holds.safe.told u.holds.safe.dated x.restored s.log.taken u.mark u.taken q
 
   -- the chip after so many effects is that after the first calls of the plan
@@ -257,7 +264,8 @@ module _ (plan : Ports) (is : IsPlan plan) (workers : ℕ) (capacities : List �
       let size = ap (λ (o : Objects). length o) start in
       record {
         hitless = λ e. subst (λ o. FitsTogether capacities o (IsThingOf plan rows)) (sym start) (fits_when plan is workers capacities u.first u.began u.holds x rows same e);
-        fitting = λ fits. hitless_when plan is workers capacities u.first u.began u.holds x rows same (subst (λ o. FitsTogether capacities o (IsThingOf plan rows)) start fits);
+        routers = λ e. subst (λ o. HasSameRouters o (IsThingOf plan rows)) (sym start) (routers_when plan is workers capacities u.first u.began u.holds x rows same e);
+        fitting = λ fits routers. hitless_when plan is workers capacities u.first u.began u.holds x rows same (subst (λ o. FitsTogether capacities o (IsThingOf plan rows)) start fits) (subst (λ o. HasSameRouters o (IsThingOf plan rows)) start routers);
         view = new plan is workers capacities u.first u.began u.holds x;
         into = into plan is workers capacities u.first u.began u.holds x rows same;
         back = back plan is workers capacities u.first u.began u.holds x rows same;

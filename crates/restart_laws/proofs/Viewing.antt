@@ -2,12 +2,12 @@
 use Rattle.std.proofs.Common.{◌≡◌, ◌⊎◌, ◌∷◌, ◌∙◌, inl, inr, ℕ, List, [], Some, refl, sym, ap, subst}
 use Rattle.table_schema.specs.Plan.{Ports, IsPlan}
 use Rattle.table_schema.specs.declared.key.Key.{Key}
-use Rattle.table_schema.specs.declared.row.Row.{Row}
 use Rattle.sai_types.specs.declared.ids.Rid.{Rid}
 use Rattle.sai_types.specs.declared.thing.Thing.{Thing}
 use Rattle.sai_types.specs.declared.thing.Thing.TheVariants as thing
 use Rattle.sai_types.specs.Alike.{IsIn}
 use Rattle.sai_types.specs.Names.{ThingName, Refers, name_of}
+use Rattle.switch_model.specs.Placed.{Placed as Row}
 use Rattle.row_layout.specs.Rows.{Owner, OfRow, own_things}
 use Rattle.row_layout.specs.Shared.{shared_things, uses}
 use Rattle.switch_machine.specs.Events.{SwitchState, IsSafe, IsQuiet}

@@ -16,7 +16,7 @@ use Rattle.sai_types.specs.Names.{ThingName, name_of}
 use Rattle.switch_model.specs.Desired.{IsThingOf}
 use Rattle.switch_model.specs.Good.{TypedRows}
 use Rattle.switch_model.specs.Promises.{applied_at}
-use Rattle.switch_model.specs.Room.{FitsTogether}
+use Rattle.switch_model.specs.Room.{FitsTogether, HasSameRouters}
 use Rattle.switch_model.specs.Steady.{IsSteady, things_after}
 use Rattle.switch_model.specs.declared.mark.Mark.{Mark}
 use Rattle.switch_model.specs.declared.mark.MarkEvent.{MarkEvent}
@@ -25,10 +25,11 @@ use Rattle.chip_layout.specs.Counted.{AreDistinct}
 use Rattle.plan_laws.specs.Bounds.{IsUnwanted, makes_kind}
 use Rattle.plan_laws.specs.Views.{AreLacking, HaveOwnNames}
 
--- an apply from the one number of effects to the other, where these rows are applied: it is hitless exactly where the chip and their things fit together; a hitless one is steady after each effect, makes of each kind no more than these things have names that the chip did not show, and removes nothing whose name they have, but doubles; and an apply has no more effects than the chip had objects and three for each name of these things
+-- an apply from the one number of effects to the other, where these rows are applied: it is hitless exactly where the chip and their things fit together and their interfaces are in the same routers; a hitless one is steady after each effect, makes of each kind no more than these things have names that the chip did not show, and removes nothing whose name they have, but doubles; and an apply has no more effects than the chip had objects and three for each name of these things
 pub record IsSteadyApply (plan : Ports) (capacities : List ℕ) (rows : TypedRows) (effects : List (Call Rid)) (mode : Mode) (from to : ℕ) : Type 0 where
   pub hitless : mode ≡ Hitless → FitsTogether capacities (chip_after effects from) (IsThingOf plan rows)
-  pub fitting : FitsTogether capacities (chip_after effects from) (IsThingOf plan rows) → mode ≡ Hitless
+  pub routers : mode ≡ Hitless → HasSameRouters (chip_after effects from) (IsThingOf plan rows)
+  pub fitting : FitsTogether capacities (chip_after effects from) (IsThingOf plan rows) → HasSameRouters (chip_after effects from) (IsThingOf plan rows) → mode ≡ Hitless
   pub view : List Thing
   pub into : (t : Thing) → IsThingOf plan rows t → IsIn t view
   pub back : (t : Thing) → IsIn t view → IsThingOf plan rows t

@@ -1,5 +1,5 @@
 -- What holds of a chip in every state of the service, whatever failed. Own.
-use Rattle.std.specs.Prelude.{◌≡◌, ◌≤◌, ℕ, List, None, Some}
+use Rattle.std.specs.Prelude.{◌≡◌, ◌≤◌, ℕ, List, Some}
 use Rattle.swss_types.specs.Address.{IsProperPrefix}
 use Rattle.table_schema.specs.Plan.{Ports, lanes_in_plan}
 use Rattle.sai_types.specs.declared.ids.Rid.{Rid}
@@ -13,10 +13,9 @@ use Rattle.sai_types.specs.Made.{IsWhole}
 use Rattle.sai_types.specs.Objects.{Objects, body_at, used}
 use Rattle.sai_types.specs.Refusal.{capacity_of}
 
--- a port has the lanes of a port of the plan, an interface is in the default virtual router, and a route's prefix is proper
+-- a port has the lanes of a port of the plan, and a route's prefix is proper
 abbrev pub IsPlannedBody : Ports → Body Rid → Type 0
 IsPlannedBody plan (body.Port lanes speed mtu up) = (q : ℕ) × (lanes_in_plan plan q ≡ Some lanes)
-IsPlannedBody plan (body.Rif vr on) = vr ≡ None
 IsPlannedBody plan (body.Route vr prefix to) = IsProperPrefix prefix
 IsPlannedBody plan _ = Unit {0}
 

@@ -22,6 +22,7 @@ ghost use Rattle.sai_types.specs.Refusal.{IsLegal};
 ghost use Rattle.switch_model.specs.declared.mark.Mark.{Mark};
 ghost use Rattle.switch_model.specs.Desired.{IsThingOf};
 ghost use Rattle.switch_model.specs.Marks.{sent_writes};
+ghost use Rattle.switch_model.specs.Placed.{bare_rows};
 ghost use Rattle.switch_model.specs.Promises.{EffectsAreLegal, IsBegun, MarksAreTrue, applied_at};
 ghost use Rattle.switch_model.specs.Steady.{things_after};
 ghost use Rattle.switch_model.specs.Sound.{AreWithin};
@@ -75,8 +76,8 @@ pub fn ports_keep_their_lanes()
 /// apply can end, and then the chip is alike to the things of the rows that were applied at its beginning.
 pub fn apply_leads_to_its_view()
     ensures begun { (plan : Ports) (workers : ℕ) (capacities : List ℕ) (s t : Service) (x : Restores plan workers capacities s t) (taken : List Sent) (mark : Mark) → IsPlan plan → Holds plan workers capacities s → sent_writes (take mark.taken taken) ≡ s.core.written.taken → IsBegun plan capacities taken mark (waiting_of x.restored.waits) }
-    ensures leads { (plan : Ports) (workers : ℕ) (capacities : List ℕ) (s : Service) → IsPlan plan → Holds plan workers capacities s → s.warm ≡ Applying → AreLegal capacities s.core.made s.core.objects s.left × IsAlike (after_calls s.core.made s.core.objects s.left) (IsThingOf plan s.core.machine.board.applied) }
-    ensures synced { (plan : Ports) (workers : ℕ) (capacities : List ℕ) (s : Service) (k : Key) → IsPlan plan → Holds plan workers capacities s → s.warm ≡ Applying → (IsIn k s.core.to_sync → ⊥) → s.core.machine.board.applied k ≡ good_of plan s.core.written k }
+    ensures leads { (plan : Ports) (workers : ℕ) (capacities : List ℕ) (s : Service) → IsPlan plan → Holds plan workers capacities s → s.warm ≡ Applying → AreLegal capacities s.core.made s.core.objects s.left × IsAlike (after_calls s.core.made s.core.objects s.left) (IsThingOf plan (bare_rows s.core.machine.board.applied)) }
+    ensures synced { (plan : Ports) (workers : ℕ) (capacities : List ℕ) (s : Service) (k : Key) → IsPlan plan → Holds plan workers capacities s → s.warm ≡ Applying → (IsIn k s.core.to_sync → ⊥) → bare_rows s.core.machine.board.applied k ≡ good_of plan s.core.written k }
     ensures ends { (plan : Ports) (workers : ℕ) (capacities : List ℕ) (s : Service) → IsPlan plan → Holds plan workers capacities s → s.warm ≡ Applying → s.left ≡ [] → (t : Service) × Finishes s t }
     ensures ended { (plan : Ports) (workers : ℕ) (capacities : List ℕ) (s t u : Service) (x : Restores plan workers capacities s t) (es : List (Option (Call Rid) × Service)) (taken : List Sent) (mark : Mark) → IsPlan plan → Holds plan workers capacities s → AreApplying es → AreServiceEvents plan workers capacities t es → Finishes (service_after t es) u → sent_writes (take mark.taken taken) ≡ s.core.written.taken → IsAlike u.core.objects (IsThingOf plan (applied_at plan taken mark (waiting_of x.restored.waits))) }
 {}
@@ -122,7 +123,8 @@ pub fn effects_outside_applies_are_few()
     ensures { (plan : Ports) (workers : ℕ) (capacities : List ℕ) (ts : List LoggedService) → IsPlan plan → AreLoggedSteps plan workers capacities new_session ts → effects_outside None (session_after new_session ts).log.marks (length (session_after new_session ts).effects) ≤ most_calls * (length (session_after new_session ts).log.taken + listed_at_applies (session_after new_session ts).log.marks) }
 {}
 
-/// Each apply that a log tells of is hitless exactly where the chip and the things of the rows applied at its mark fit together.
+/// Each apply that a log tells of is hitless exactly where the chip and the things of the rows applied at its mark fit together and
+/// no base has interfaces in different virtual routers among them.
 /// After each effect of a hitless one, up to the next mark or the end, each address is decided as by what stood at its mark or as by
 /// these things, once as by these always so, and what both forward equally is forwarded so. No apply has more effects than the chip
 /// had objects at its mark and three for each of these things. And no call takes effect between a fault or a restart and the next mark.

@@ -15,6 +15,7 @@ use Rattle.sai_types.specs.ChipState.{ChipState}
 use Rattle.sai_types.specs.Refusal.{IsLegal}
 use Rattle.switch_model.specs.History.{History, with_end, with_mark}
 use Rattle.switch_model.specs.Marks.{AreInOrder, Waiting}
+use Rattle.switch_model.specs.Placed.{bare_rows}
 use Rattle.switch_model.specs.Promises.{AreTrueMarks, IsSettled, IsTrueMark}
 use Rattle.switch_model.specs.declared.mark.Mark.{Mark}
 use Rattle.switch_model.specs.declared.mark.MarkEvent.TheVariants as event
@@ -135,7 +136,7 @@ module _ {workers : ℕ} (c : CoreState) (chip : ChipState) (x : InSession worke
         let rest = list_of ks (λ q i. there q (inr i)) in
         let reason = must k (there k (inl refl)) in
         record {
-          waits = (k, reason.0, x.session.service.core.machine.board.applied k) ∷ rest.waits;
+          waits = (k, reason.0, bare_rows x.session.service.core.machine.board.applied k) ∷ rest.waits;
           keys_are = ap (λ z. k ∷ z) rest.keys_are;
           listed = (reason.1, refl, rest.listed);
         }

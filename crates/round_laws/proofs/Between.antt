@@ -11,6 +11,7 @@ use Rattle.sai_types.specs.ChipState.{ChipState}
 use Rattle.switch_model.specs.Good.{TypedRows, good_rows}
 use Rattle.switch_model.specs.History.{History, with_end, with_mark, with_write}
 use Rattle.switch_model.specs.Marks.{applied_rows, sent_writes, written_key}
+use Rattle.switch_model.specs.Placed.{bare_rows}
 use Rattle.switch_model.specs.Promises.{good_rows_at}
 use Rattle.switch_model.specs.declared.mark.Mark.{Mark}
 use Rattle.switch_model.specs.declared.mark.MarkEvent.TheVariants as event
@@ -181,7 +182,7 @@ module _ {workers : ℕ} (c c' : CoreState) (chip chip' : ChipState) (x : InSess
   good_is : (k : Key) → good_rows c'.board.plan (rows_of (sent_writes c'.log.taken)) k ≡ its_good k
   good_is k = ap (λ (g : TypedRows). g k) (sym (all-good c'.board.plan c'.log.taken)) ∙ ap (λ n. good_rows_at c'.board.plan c'.log.taken n k) (sym counts)
 
-  pub its-rows : (k : Key) → applied_rows y.settling.waits its_good k ≡ t.machine.board.applied k
+  pub its-rows : (k : Key) → applied_rows y.settling.waits its_good k ≡ bare_rows t.machine.board.applied k
   its-rows k = listed-rows c'.board.plan c'.sync.capacities t its_good y.settling.waits k its-listed (λ none.
       good-quiet c'.board.plan later-in.stands.always.plan 4 c'.sync.capacities t (core-safe c' chip' later-in y.warm y.free) (core-quiet c' chip' later-in y.warm y.free) k (λ i. none (synced_listed k i))
       ∙ core-good c' chip' later-in y.warm y.free y.popped k

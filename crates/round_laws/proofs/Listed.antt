@@ -11,11 +11,13 @@ use Rattle.sai_types.specs.declared.body.Call.{Call}
 use Rattle.sai_types.specs.Alike.{IsIn}
 use Rattle.switch_model.specs.History.{History}
 use Rattle.switch_model.specs.Marks.{IsTrueReason, sent_writes, written_key}
+use Rattle.switch_model.specs.Placed.{bare, bare_rows}
 use Rattle.switch_model.specs.declared.wait.Wait.{Wait}
 use Rattle.switch_model.specs.declared.wait.Wait.TheVariants as wait
 use Rattle.producer_table.specs.Pending.{PendingKeys}
 use Rattle.switch_machine.specs.Events.{AreAnswers, IsQuiet, IsSafe, SwitchState, after_answers, fresh_view}
 use Rattle.switch_machine.specs.Written.{HasWrittenRows, IsTold, Written, good_of}
+use Rattle.switch_machine.proofs.Placing.{row_of}
 use Rattle.switch_machine.proofs.Reasoned.{reason-true}
 use Rattle.switch_machine.proofs.Runs.{safe-fresh}
 use Rattle.machine_laws.proofs.Sharing.{written-once}
@@ -36,9 +38,11 @@ use Rattle.round_laws.proofs.ToSync.{good_named}
 
 module _ (plan : Ports) (is : IsPlan plan) (capacities : List ℕ) (taken : List Sent) where
   -- a key with a reason has a good row, or an applied one that was good once
-  reason_named : (s : SwitchState) (k : Key) (w : Wait) → IsSafe plan 4 capacities s → s.written.taken ≡ sent_writes taken → IsTrueReason plan capacities (good_of plan s.written) s.machine.board.applied k w → IsIn k (keys_named taken)
+  reason_named : (s : SwitchState) (k : Key) (w : Wait) → IsSafe plan 4 capacities s → s.written.taken ≡ sent_writes taken → IsTrueReason plan capacities (good_of plan s.written) (bare_rows s.machine.board.applied) k w → IsIn k (keys_named taken)
   reason_named s k (wait.Missing name) safe same (row, good, first) = good_named plan s.written taken k row safe.dated same good
-  reason_named s k (wait.Held holder) safe same (gone, row, there, held) = of-named taken k (subst (λ (z : List Write). IsIn k (map written_key z)) same (written-once plan s.written.taken k row (safe.good k row (inl there))))
+  reason_named s k (wait.Held holder) safe same (to_go, row, there, held) =
+      let x = row_of (s.machine.board.applied k) row there in
+      of-named taken k (subst (λ (z : List Write). IsIn k (map written_key z)) same (written-once plan s.written.taken k (bare x.0) (safe.good k x.0 (inl x.1))))
   reason_named s k (wait.NoRoom kind) safe same (row, good, named, over) = good_named plan s.written taken k row safe.dated same good
   reason_named s k (wait.Busy worker) safe same h = absurd h
 

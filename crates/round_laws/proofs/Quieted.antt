@@ -1,5 +1,5 @@
 -- a round leaves quiet rows alone
-use Rattle.std.proofs.Common.{◌≡◌, ◌∷◌, ◌++◌, ◌∙◌, inl, inr, ℕ, List, [], length, Option, None, Some, refl, sym, ap, subst}
+use Rattle.std.proofs.Common.{◌≡◌, ◌∷◌, ◌++◌, ◌∙◌, inl, inr, ℕ, List, [], length, Option, None, Some, refl, sym, ap, ap₂, subst}
 use Rattle.std.proofs.lemmas.List.{append_cancel_left}
 use Rattle.std.proofs.lemmas.Option.{same_Some}
 use Rattle.table_schema.specs.Plan.{IsPlan, Ports}
@@ -15,16 +15,20 @@ use Rattle.sai_types.specs.ChipState.{ChipState}
 use Rattle.sai_types.specs.Named.{thing_of}
 use Rattle.sai_types.specs.Objects.{Objects, body_at}
 use Rattle.sai_types.proofs.Exact.{entry-exact}
+use Rattle.switch_model.specs.Good.{TypedRows}
+use Rattle.switch_model.specs.Placed.{bare_rows, place, router_in}
 use Rattle.switch_model.specs.Things.{things_of}
 use Rattle.switch_model.specs.declared.mark.Mark.{Mark}
 use Rattle.chip_layout.specs.Layout.{listed}
 use Rattle.chip_layout.proofs.Naming.{thing-laid}
 use Rattle.switch_machine.specs.Events.{AreEvents, IsEvent, IsQuiet, IsSafe, SwitchState, calls_of}
 use Rattle.switch_machine.specs.Written.{HasNoWrite}
+use Rattle.switch_machine.proofs.Placing.{own_place, row_of}
 use Rattle.switch_machine.proofs.Resting.{grouped}
 use Rattle.switch_machine.proofs.Tabled.{tabled}
 use Rattle.machine_laws.specs.Logged.{ArePops, after_pops}
 use Rattle.machine_laws.specs.Quiet.{NamesNot, EntryStandsFor, TakesNoWriteOf}
+use Rattle.machine_laws.proofs.Rows.{AreSameRows, router_same}
 use Rattle.machine_laws.proofs.Turning.{Leads, TakeNothing, both, turns-lead}
 use Rattle.machine_laws.proofs.Unnamed.{one_more_differs, unnamed-rows}
 use Rattle.restart_laws.specs.Logged.{session_after}
@@ -32,6 +36,7 @@ use Rattle.session_laws.specs.Core.{CoreState}
 use Rattle.session_laws.specs.Service.Events.{MakesMore}
 use Rattle.session_laws.specs.Leading.{SettlesTo}
 use Rattle.round_laws.specs.Between.{IsInRound, round_from}
+use Rattle.round_laws.specs.Ended.{applied_since}
 use Rattle.round_laws.specs.Quiet.{LeavesQuietRows, StandsForRow}
 use Rattle.round_laws.proofs.Growing.{Unlogged, unlogged}
 use Rattle.round_laws.proofs.Sessions.{objects-left}
@@ -58,17 +63,19 @@ module _ (plan : Ports) (capacities : List ℕ) (k : Key) where
 -- ---- what stands for a row on the chip stands for it in the machine
 
 module _ (plan : Ports) (is : IsPlan plan) (capacities : List ℕ) (s : SwitchState) (safe : IsSafe plan 4 capacities s) (quiet : IsQuiet s) where
-  pub stands-for : (objects : Objects) (k : Key) (row : Row) (e : Entry Rid) → s.objects ≡ objects → s.machine.board.applied k ≡ Some row → StandsForRow plan objects k row e → EntryStandsFor plan k e s.machine
-  stands-for objects k row e same at x =
+  pub stands-for : (rows : TypedRows) (objects : Objects) (k : Key) (row : Row) (e : Entry Rid) → s.objects ≡ objects → AreSameRows rows (bare_rows s.machine.board.applied) → rows k ≡ Some row → StandsForRow plan rows objects k row e → EntryStandsFor plan k e s.machine
+  stands-for rows objects k row e same alike at x =
+      let y = row_of (s.machine.board.applied k) row (sym (alike k) ∙ at) in
+      let placed : place (router_in rows k) row ≡ y.0 = ap₂ (λ v r. place v r) (router_same rows (bare_rows s.machine.board.applied) alike k) (sym y.2) ∙ sym (own_place plan s.machine.board safe.sound.board k y.0 y.1) in
       let laid = safe.laid in
       let owner = laid.tied e x.body (subst (λ o. body_at o e ≡ Some x.body) (sym same) x.there) in
       let named = thing-laid (listed s.machine.stands) s.objects laid s.made safe.whole (grouped plan (tabled plan is) s.machine safe.sound quiet) owner.0 owner.1 e x.body owner.2 owner.3 owner.4 in
       let one : x.thing ≡ owner.1 = same_Some x.thing owner.1 (sym x.is ∙ ap (λ o. thing_of o (e, x.body)) (sym same) ∙ named) in
       record {
-        row = row;
-        applied = at;
+        row = y.0;
+        applied = y.1;
         thing = owner.1;
-        of = subst (λ t. IsIn t (things_of plan k row)) one x.of;
+        of = subst (λ t. IsIn t (things_of plan k y.0)) one (subst (λ r. IsIn x.thing (things_of plan k r)) placed x.of);
         id = owner.0;
         stands = owner.2;
         body = x.body;
@@ -102,8 +109,8 @@ module _ {workers : ℕ} (since : Option Mark) (old c c' : CoreState) (chip chip
   pub quiet-left : LeavesQuietRows c.board.plan (the-round since old c c' chip chip' sent x y)
   quiet-left k row e at other stood call called =
       let safe = settling-safe since old c c' chip chip' sent x y in
-      let rows = ap (λ (z : SwitchState). z.machine.board.applied k) same ∙ round-rows since old c chip sent x k ∙ at in
-      let there = stands-for plan x.within.stands.always.plan room from safe (settling-quiet since old c c' chip chip' sent x y) (chip_after chip.effects (length chip.effects)) k row e objects rows stood in
+      let alike : AreSameRows (applied_since c.board.plan old.log.taken since) (bare_rows from.machine.board.applied) = λ q. sym (ap (λ (z : SwitchState). bare_rows z.machine.board.applied q) same ∙ round-rows since old c chip sent x q) in
+      let there = stands-for plan x.within.stands.always.plan room from safe (settling-quiet since old c c' chip chip' sent x y) (applied_since c.board.plan old.log.taken since) (chip_after chip.effects (length chip.effects)) k row e objects alike at stood in
       (unnamed-rows plan x.within.stands.always.plan 4 room k from events.events e safe events.are (names_not plan room k from events.events events.are events.takeless)
       (subst (λ (z : SwitchState). HasNoWrite z.written k) (sym same) (round-unnamed since old c chip sent x k (λ i. other (inr i))))
       (λ w f flying is. settling-quiet since old c c' chip chip' sent x y w f flying)
@@ -133,8 +140,8 @@ module _ {workers w : ℕ} (since : Option Mark) (old c c' : CoreState) (chip ch
     quiet-so-far mark k row e at other stood call called =
         let safe = round-safe since old c chip sent x in
         let quiet = round-quiet since old c chip sent x in
-        let rows = round-rows since old c chip sent x k ∙ at in
-        let there = stands-for c.board.plan x.within.stands.always.plan c.sync.capacities start safe quiet (chip_after chip.effects (length chip.effects)) k row e (x.within.stands.always.objects ∙ objects-left c chip x.within) rows stood in
+        let alike : AreSameRows (applied_since c.board.plan old.log.taken since) (bare_rows start.machine.board.applied) = λ q. sym (round-rows since old c chip sent x q) in
+        let there = stands-for c.board.plan x.within.stands.always.plan c.sync.capacities start safe quiet (applied_since c.board.plan old.log.taken since) (chip_after chip.effects (length chip.effects)) k row e (x.within.stands.always.objects ∙ objects-left c chip x.within) alike at stood in
         (unnamed-rows c.board.plan x.within.stands.always.plan 4 c.sync.capacities k start run.events e safe run.are (names_not c.board.plan c.sync.capacities k start run.events run.are run.takeless)
         (round-unnamed since old c chip sent x k (λ i. other (inr i)))
         (λ w f flying is. quiet w f flying)

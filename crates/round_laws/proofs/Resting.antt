@@ -12,6 +12,7 @@ use Rattle.sai_types.specs.ChipState.{ChipState}
 use Rattle.switch_model.specs.Desired.{IsThingOf}
 use Rattle.switch_model.specs.Good.{TypedRows, good_row, good_rows}
 use Rattle.switch_model.specs.Marks.{Waiting, applied_rows, sent_writes}
+use Rattle.switch_model.specs.Placed.{bare_rows}
 use Rattle.switch_model.specs.Promises.{good_rows_at}
 use Rattle.switch_model.specs.declared.wait.Wait.{Wait}
 use Rattle.chip_layout.specs.Layout.{IsLaidOut, listed}
@@ -20,6 +21,7 @@ use Rattle.switch_machine.specs.Events.{IsQuiet, IsSafe, SwitchState}
 use Rattle.switch_machine.specs.Reasons.{IsReason}
 use Rattle.switch_machine.specs.Written.{IsPopped, Written, good_of}
 use Rattle.switch_machine.proofs.Calling.{sort_of}
+use Rattle.switch_machine.proofs.Placing.{row_of_thing}
 use Rattle.switch_machine.proofs.Reasoned.{reason-true}
 use Rattle.switch_machine.proofs.Resting.{back_by, into_by}
 use Rattle.switch_machine.proofs.Runs.{good-quiet}
@@ -50,12 +52,12 @@ all-good plan taken = ap (λ ts. good_rows plan (rows_of (sent_writes ts))) (tak
 
 module _ (plan : Ports) (capacities : List ℕ) (s : SwitchState) where
   -- the listed rows, and the good row of each key that is not listed
-  pub listed-rows : (good : TypedRows) (waits : Waiting) (q : Key) → AreListed plan 4 capacities s waits → ((ListsKey q waits → ⊥) → s.machine.board.applied q ≡ good q) → applied_rows waits good q ≡ s.machine.board.applied q
+  pub listed-rows : (good : TypedRows) (waits : Waiting) (q : Key) → AreListed plan 4 capacities s waits → ((ListsKey q waits → ⊥) → bare_rows s.machine.board.applied q ≡ good q) → applied_rows waits good q ≡ bare_rows s.machine.board.applied q
   listed-rows good [] q listed f = sym (f (λ h. h))
   listed-rows good (w ∷ ws) q listed f = by (listed-rows good ws q listed.2) (key_split q w.0)
     where
-      by : (((ListsKey q ws → ⊥) → s.machine.board.applied q ≡ good q) → applied_rows ws good q ≡ s.machine.board.applied q) → IsSplit q w.0 → applied_rows (w ∷ ws) good q ≡ s.machine.board.applied q
-      by rest (inl e) = row_at q w.0 w.2 (λ z. applied_rows ws good q) e ∙ listed.1 ∙ ap s.machine.board.applied (sym e)
+      by : (((ListsKey q ws → ⊥) → bare_rows s.machine.board.applied q ≡ good q) → applied_rows ws good q ≡ bare_rows s.machine.board.applied q) → IsSplit q w.0 → applied_rows (w ∷ ws) good q ≡ bare_rows s.machine.board.applied q
+      by rest (inl e) = row_at q w.0 w.2 (λ z. applied_rows ws good q) e ∙ listed.1 ∙ ap (bare_rows s.machine.board.applied) (sym e)
       by rest (inr apart) = row_off q w.0 w.2 (λ z. applied_rows ws good q) apart ∙ rest (λ none. f (λ h. other none h))
         where
           other : (ListsKey q ws → ⊥) → (w.0 ≡ q) ⊎ ListsKey q ws → ⊥
@@ -79,11 +81,11 @@ module _ (plan : Ports) (is : IsPlan plan) (capacities : List ℕ) (s : SwitchSt
       by (inr none) = absurd (same-no_reason plan is 4 capacities s safe quiet k (good-quiet plan is 4 capacities s safe quiet k none) w (reason-true plan is 4 capacities s safe quiet k w reason))
 
   -- what stands are the things of the applied rows
-  pub stands-thing : (t : Thing) (i : Rid) → IsIn (i, t) s.machine.stands → IsThingOf plan s.machine.board.applied t
+  pub stands-thing : (t : Thing) (i : Rid) → IsIn (i, t) s.machine.stands → IsThingOf plan (bare_rows s.machine.board.applied) t
   stands-thing t i at = let o = safe.sound.owned t (i, at) in into_by plan (tabled plan is) s.machine safe.sound quiet t (i, at) o.0 o.1 (sort_of o.0)
 
-  pub thing-stands : (t : Thing) → IsThingOf plan s.machine.board.applied t → (i : Rid) × IsIn (i, t) s.machine.stands
-  thing-stands t (k, r, at, of) = back_by plan (tabled plan is) s.machine safe.sound quiet t k r at ((things-split plan k r).into t of)
+  pub thing-stands : (t : Thing) → IsThingOf plan (bare_rows s.machine.board.applied) t → (i : Rid) × IsIn (i, t) s.machine.stands
+  thing-stands t h = let x = row_of_thing plan s.machine.board safe.sound.board t h in back_by plan (tabled plan is) s.machine safe.sound quiet t x.0 x.1 x.2 ((things-split plan x.0 x.1).into t x.3)
 
 -- ---- of a core
 

@@ -11,6 +11,7 @@ use Rattle.sai_types.specs.ChipState.{ChipState}
 use Rattle.switch_model.specs.Good.{TypedRows, good_row}
 use Rattle.switch_model.specs.History.{History}
 use Rattle.switch_model.specs.Marks.{IsTrueReason, sent_writes, written_key}
+use Rattle.switch_model.specs.Placed.{bare_rows}
 use Rattle.switch_model.specs.declared.wait.Wait.{Wait}
 use Rattle.switch_model.specs.declared.wait.Wait.TheVariants as wait
 use Rattle.switch_machine.specs.Events.{IsEvent, IsPop, IsTake, Popped, PopsKey, Stays, SwitchState}
@@ -113,7 +114,7 @@ module _ (plan : Ports) (capacities : List ℕ) where
 
 reads : (plan : Ports) (capacities : List ℕ) (good applied : TypedRows) (k : Key) (w : Wait) → applied k ≡ None → IsTrueReason plan capacities good applied k w → (row : Row) × (good k ≡ Some row)
 reads plan capacities good applied k (wait.Missing name) none (row, is, first) = (row, is)
-reads plan capacities good applied k (wait.Held holder) none (gone, row, there, held) = absurd (two row (sym none ∙ there))
+reads plan capacities good applied k (wait.Held holder) none (to_go, row, there, held) = absurd (two row (sym none ∙ there))
   where
     two : (r : Row) → None ≡ Some r → ⊥
     two r e = cc
@@ -144,7 +145,7 @@ module _ (plan : Ports) (is : IsPlan plan) (capacities : List ℕ) where
       by : (k : Key) → (w : Wait) × IsIn (k, w) x.restored.waits → IsIn k (keys_named t.log.taken)
       by k (w, at) =
           let y = restored-waits plan is 4 capacities s.service.core.written x.view before.holds.safe.told before.holds.safe.dated x.restored k w at in
-          let r = reads plan capacities (good_of plan x.view.written) x.view.machine.board.applied k w y.absent y.reason in
+          let r = reads plan capacities (good_of plan x.view.written) (bare_rows x.view.machine.board.applied) k w y.absent y.reason in
           good_named plan t.service.core.written t.log.taken k r.0 after.holds.safe.dated after.tells.taken (ap (λ z. good_of plan z k) x.written ∙ r.1)
 
   -- ---- the events of the service

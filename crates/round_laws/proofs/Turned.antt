@@ -14,6 +14,7 @@ use Rattle.sai_types.specs.ChipState.{ChipState}
 use Rattle.switch_model.specs.Good.{good_rows}
 use Rattle.switch_model.specs.History.{History}
 use Rattle.switch_model.specs.Marks.{applied_rows, sent_writes}
+use Rattle.switch_model.specs.Placed.{bare_rows}
 use Rattle.switch_model.specs.Promises.{applied_at, good_rows_at}
 use Rattle.switch_model.specs.declared.mark.Mark.{Mark}
 use Rattle.chip_layout.specs.Layout.{IsLaidOut, listed}
@@ -22,6 +23,7 @@ use Rattle.switch_machine.specs.Written.{HasNoWrite, good_of}
 use Rattle.machine_laws.specs.Calls.{AreTurnsWith, Situation}
 use Rattle.machine_laws.specs.Logged.{LoggedSwitch, after_pops}
 use Rattle.machine_laws.specs.Settling.{IsSituationOf, situation}
+use Rattle.machine_laws.proofs.AtRest.{at-rest}
 use Rattle.machine_laws.proofs.Deciding.{IsDecided}
 use Rattle.machine_laws.proofs.Logging.{settling-calls, settling-good, settling-keys}
 use Rattle.machine_laws.proofs.Rows.{thing_same}
@@ -46,8 +48,8 @@ use Rattle.round_laws.proofs.Resting.{core-quiet, core-safe, core-session, core-
 -- what stands in a situation that is that of a state
 stands_as : (plan : Ports) (effects : List (Call Rid)) (t : SwitchState) (z : Situation) → IsSituationOf z t → StandsOnChip plan effects (situation t) → StandsOnChip plan effects z
 stands_as plan effects t z agrees x = record {
-  things = λ u i h. thing_same plan t.machine.board.applied z.applied (λ k. sym (agrees.rows k)) u (x.things u i (subst (IsIn (i, u)) agrees.stands h));
-  stand = λ u h. let y = x.stand u (thing_same plan z.applied t.machine.board.applied agrees.rows u h) in (y.0, subst (IsIn (y.0, u)) (sym agrees.stands) y.1);
+  things = λ u i h. thing_same plan (bare_rows t.machine.board.applied) z.applied (λ k. sym (agrees.rows k)) u (x.things u i (subst (IsIn (i, u)) agrees.stands h));
+  stand = λ u h. let y = x.stand u (thing_same plan z.applied (bare_rows t.machine.board.applied) agrees.rows u h) in (y.0, subst (IsIn (y.0, u)) (sym agrees.stands) y.1);
   laid = subst (λ l. IsLaidOut (listed l) (chip_after effects (length effects))) (sym agrees.stands) x.laid;
   made = x.made ∙ ap (λ n. n + 1) (sym agrees.made);
 }
@@ -76,7 +78,7 @@ module _ {workers : ℕ} (since : Option Mark) (old c : CoreState) (chip : ChipS
   round-quiet = core-quiet c chip x.within round-warm round-free
 
   -- the applied rows
-  pub round-rows : (k : Key) → before.machine.board.applied k ≡ applied_since c.board.plan old.log.taken since k
+  pub round-rows : (k : Key) → bare_rows before.machine.board.applied k ≡ applied_since c.board.plan old.log.taken since k
   round-rows k =
       (x.within.stands.working round-warm).1.rows k
       ∙ ap (λ b. row_at b.applied k) x.board
@@ -203,7 +205,8 @@ module _ {workers : ℕ} (since : Option Mark) (old c c' : CoreState) (chip chip
     turns = y.settling.turns;
     event_is = refl;
     start = situation s.switch;
-    applied = λ k. ap (λ (z : SwitchState). z.machine.board.applied k) same-switch ∙ round-rows since old c chip sent x k;
+    applied = λ k. ap (λ (z : SwitchState). bare_rows z.machine.board.applied k) same-switch ∙ round-rows since old c chip sent x k;
+    rests = at-rest plan x.within.stands.always.plan 4 room s.switch settling-safe settling-quiet;
     begins = begins;
     good = good_of plan (after_pops s.switch y.settling.pops).written;
     wanted = wanted;

@@ -14,7 +14,7 @@ use Rattle.switch_model.specs.Promises.{applied_at}
 use Rattle.switch_model.specs.declared.mark.MarkEvent.TheVariants as event
 use Rattle.chip_layout.specs.Layout.{IsLaidOut, listed}
 use Rattle.machine_laws.specs.Calls.{AreTurnsWith, AreTurnsWithSoFar, Situation}
-use Rattle.machine_laws.specs.ToSync.{AreInKeyOrder}
+use Rattle.machine_laws.specs.ToSync.{AreAtRest, AreInKeyOrder}
 use Rattle.round_laws.specs.Ended.{EndedRound, HasCounts, IsToTry, LeavesRows, effects_then, rows_before, rows_wanted, taken_then}
 
 -- after these effects what stands are the things of the applied rows, each with its identifier on the chip
@@ -24,7 +24,7 @@ pub record StandsOnChip (plan : Ports) (effects : List (Call Rid)) (z : Situatio
   pub laid : IsLaidOut (listed z.stands) (chip_after effects (length effects))
   pub made : next_id effects ≡ z.made + 1
 
--- a round, or what comes of it behind its last apply, that ended at the mark of its settling: from the mark before it, or the beginning, turns were made over the keys that it tries, as many as its mark counts, from the rows applied before it to the good rows; the mark lists the keys that the turns left; and the calls of the round are those of these turns
+-- a round, or what comes of it behind its last apply, that ended at the mark of its settling: from the mark before it, or the beginning, turns were made over the keys that it tries, as many as its mark counts, from the rows applied before it, which are at rest, to the good rows; the mark lists the keys that the turns left; and the calls of the round are those of these turns
 pub record IsMadeByTurns (plan : Ports) (capacities : List ℕ) (r : EndedRound) : Type 0 where
   pub counts : HasCounts r
   pub follows : LeavesRows r.before
@@ -34,6 +34,7 @@ pub record IsMadeByTurns (plan : Ports) (capacities : List ℕ) (r : EndedRound)
   -- how it begins
   pub start : Situation
   pub applied : (k : Key) → start.applied k ≡ rows_before plan r k
+  pub rests : AreAtRest plan capacities start.applied
   pub begins : StandsOnChip plan r.effects start
   pub good : TypedRows
   pub wanted : (k : Key) → good k ≡ rows_wanted plan r k

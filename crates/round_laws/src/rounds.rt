@@ -16,7 +16,8 @@ ghost use Rattle.switch_model.specs.Marks.{Waiting, sent_writes, written_key};
 ghost use Rattle.switch_model.specs.Promises.{good_rows_at};
 ghost use Rattle.switch_model.specs.declared.mark.Mark.{Mark};
 ghost use Rattle.switch_model.specs.declared.mark.MarkEvent.TheVariants as event;
-ghost use Rattle.switch_model.specs.Room.{HasRoomForView, IsRoundThing};
+ghost use Rattle.switch_model.specs.Placed.{bare_rows};
+ghost use Rattle.switch_model.specs.Room.{HasRoomForView, IsRoundStill, IsRoundThing};
 ghost use Rattle.switch_machine.specs.Events.{IsDueCall, SwitchState, after_answers};
 ghost use Rattle.producer_table.specs.Pending.{ArePendingInOrder};
 ghost use Rattle.machine_laws.specs.Logged.{IsSettlingSoFar};
@@ -61,10 +62,10 @@ pub fn rounds_end()
     ensures failed { (workers : ℕ) (since : Option Mark) (old c : CoreState) (chip : ChipState) (sent : List Sent) (x : IsInRound workers since old chip sent c) (t : SwitchState) (calls : List (Call Rid)) (call : Call Rid) (mark : Mark) → IsSettlingSoFar c.board.plan 4 c.sync.capacities (with_calls x.within.session.service.core []) (with_calls t calls) → IsDueCall 4 call t → IsMadeSoFar c.board.plan c.sync.capacities (round_from since old chip sent (calls ++ call ∷ []) mark) }
 {}
 
-/// A round whose calls are those of turns drains: where its good rows are closed and there is room, its mark lists no key, and its turns
-/// are at most four. So does a settling, where each row that is applied when its turns begin was applied before the round, or is a good
-/// row after one of these numbers of writes.
+/// A round whose calls are those of turns drains: where its good rows are closed, its interfaces stay in their routers and there is room,
+/// its mark lists no key, and its turns are at most four. So does a settling, where each row that is applied when its turns begin was
+/// applied before the round, or is a good row after one of these numbers of writes.
 pub fn rounds_drain()
     ensures round { (plan : Ports) (capacities : List ℕ) (from : ℕ) (r : EndedRound) → IsMadeByTurns plan capacities r → from ≤ length (taken_then r) → Drains plan capacities from r }
-    ensures settling { (workers : ℕ) (c c' : CoreState) (chip chip' : ChipState) (before : TypedRows) (from to : ℕ) (x : InSession workers c chip) (y : SettlesTo c x.session c' chip') → c.warm ≡ warm.Reconciled → ((k : Key) (row : Row) → (after_answers x.session.service.core y.answers).machine.board.applied k ≡ Some row → (before k ≡ Some row) ⊎ ((n : ℕ) × (from ≤ n) × (n ≤ to) × (good_rows_at c.board.plan c.log.taken n k ≡ Some row))) → IsClosed (good_rows c.board.plan (rows_of (sent_writes c.log.taken))) → from ≤ length c.log.taken → length c.log.taken ≤ to → HasRoomForView c.sync.capacities (IsRoundThing c.board.plan before c.log.taken from to) → (y.settling.waits ≡ []) × (y.settling.turns ≤ 4) }
+    ensures settling { (workers : ℕ) (c c' : CoreState) (chip chip' : ChipState) (before : TypedRows) (from to : ℕ) (x : InSession workers c chip) (y : SettlesTo c x.session c' chip') → c.warm ≡ warm.Reconciled → ((k : Key) (row : Row) → bare_rows (after_answers x.session.service.core y.answers).machine.board.applied k ≡ Some row → (before k ≡ Some row) ⊎ ((n : ℕ) × (from ≤ n) × (n ≤ to) × (good_rows_at c.board.plan c.log.taken n k ≡ Some row))) → IsClosed (good_rows c.board.plan (rows_of (sent_writes c.log.taken))) → from ≤ length c.log.taken → length c.log.taken ≤ to → IsRoundStill c.board.plan before c.log.taken from to → HasRoomForView c.sync.capacities (IsRoundThing c.board.plan before c.log.taken from to) → (y.settling.waits ≡ []) × (y.settling.turns ≤ 4) }
 {}

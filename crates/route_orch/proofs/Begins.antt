@@ -1,12 +1,12 @@
 -- what begins for a route
 use Rattle.std.proofs.Common.{◌≡◌, ◌+◌, ℕ, ◌==◌, Bool, true, false, cond, List, [], ◌∷◌, map, length, Option, Some, None, is_some, Result, OnOk, OnErr, IfOk, IfErr, if◌then◌else◌, refl, sym, ap, ap₂, subst, ◌∙◌, arith, Bor}
 use Rattle.swss_types.specs.declared.out_of_memory.OutOfMemory.{OutOfMemory}
-use Rattle.table_schema.specs.Names.{names_of}
 use Rattle.table_schema.specs.Plan.{Ports}
 use Rattle.table_schema.specs.declared.key.Key.{Key}
 use Rattle.table_schema.specs.declared.key.Key.TheVariants as key
-use Rattle.table_schema.specs.declared.row.Row.{Row}
-use Rattle.table_schema.specs.declared.row.Row.TheVariants as row
+use Rattle.table_schema.specs.declared.row.Row.{Row as BareRow}
+use Rattle.switch_model.specs.Placed.{Placed as Row}
+use Rattle.switch_model.specs.Placed as row
 use Rattle.sai_types.specs.declared.weight.WHop.{WHop}
 use Rattle.sai_types.specs.declared.thing.Thing.{Thing}
 use Rattle.sai_types.specs.declared.thing.Thing.TheVariants as thing
@@ -16,7 +16,7 @@ use Rattle.switch_model.specs.declared.wait.Wait.{Wait}
 use Rattle.row_layout.specs.Operations.{Change, Make, Set, make_all, own_changes, same_thing, set_all, set_to, uses_of}
 use Rattle.row_layout.specs.Rows.{Group, from, goal_of}
 use Rattle.row_layout.specs.Shared.{shared_things}
-use Rattle.switch_machine.specs.Flights.{Fits}
+use Rattle.switch_machine.specs.Flights.{Fits, goes_over}
 use Rattle.switch_machine.specs.Operations.{built_first}
 use Rattle.switch_machine.specs.Places.{makes}
 use Rattle.ref_counts.specs.declared.name.Name.{Name}
@@ -27,7 +27,7 @@ use Rattle.ref_counts.specs.Registered.{begun_to_go}
 use Rattle.ref_counts.specs.Registry.{Names, changed, state_of}
 use Rattle.sai_types.specs.Kinds.{all_kinds}
 use Rattle.ref_counts.specs.Room.{Reserves, RoomState}
-use Rattle.orch_flight.specs.Needing.{absent_or, first_absent, first_unapplied, places_for, row_reason, to_build}
+use Rattle.orch_flight.specs.Needing.{absent_or, first_absent, first_unapplied, places_for, row_names, row_reason, to_build}
 use Rattle.orch_flight.specs.Sharing.{begun_by, is_absent, lacks_shared, owners_of}
 use Rattle.orch_flight.specs.Starting.{IsBegunBy, begun_names, first_due, leaving, started_names}
 use Rattle.orch_flight.specs.Taking.{to_list}
@@ -87,20 +87,25 @@ module _ (plan : Ports) (names : Names) (group : Option Name) (groups : AreGroup
   places (key.Route v p) None _ is of_old fits shares = elim fits [ ]
   places _ old r is of_old fits shares = elim is [ ]
 
-  names_begun : (worker : ℕ) (k : Key) (old : Option Row) (r : Row) → IsRouteKey k → ((a : Row) → old ≡ Some a → Fits plan k a) → Fits plan k r → uses_of plan k (Some r) ≡ owners_of group → started_names plan names worker k old (Some r) ≡ begun_by names worker k (names_of k r) (is_some old) group (lacks_shared names group)
+  names_begun : (worker : ℕ) (k : Key) (old : Option Row) (r : Row) → IsRouteKey k → ((a : Row) → old ≡ Some a → Fits plan k a) → Fits plan k r → uses_of plan k (Some r) ≡ owners_of group → started_names plan names worker k old (Some r) ≡ begun_by names worker k (row_names k r) (is_some old) group (lacks_shared names group)
   names_begun worker (key.Route v p) None (row.Route r) is of_old fits shares =
       names-due (begun_names plan names worker (key.Route v p) None (Some (row.Route r))) worker (key.Route v p) (first_due plan names (key.Route v p) None (Some (row.Route r))) (leaving plan (key.Route v p) None (Some (row.Route r))) (λ none. refl)
-      ∙ row-names plan names (key.Route v p) (row.Route r) group shares worker None
+      ∙ row-names plan names (key.Route v p) (row.Route r) group shares worker None refl
   names_begun worker (key.Route v p) (Some (row.Route a)) (row.Route r) is of_old fits shares =
       let k = key.Route v p in
       let own = own_changes plan k (Some (row.Route a)) (Some (row.Route r)) in
       names-due (begun_names plan names worker k (Some (row.Route a)) (Some (row.Route r))) worker k (first_due plan names k (Some (row.Route a)) (Some (row.Route r))) (leaving plan k (Some (row.Route a)) (Some (row.Route r)))
       (λ none. none-left plan v p (Some a) (Some r) (of_old (row.Route a) refl).1 fits.1 (sym (built-apart names (uses_of plan k (Some (row.Route r))) group own shares groups) ∙ none))
-      ∙ row-names plan names k (row.Route r) group shares worker (Some (row.Route a))
+      ∙ row-names plan names k (row.Route r) group shares worker (Some (row.Route a)) refl
   names_begun worker (key.Route v p) (Some (row.Route a)) _ is of_old fits shares = elim fits [ ]
   names_begun worker (key.Route v p) (Some a) r is of_old fits shares = elim (of_old a refl) [ ]
   names_begun worker (key.Route v p) None _ is of_old fits shares = elim fits [ ]
   names_begun worker _ old r is of_old fits shares = elim is [ ]
+
+-- a route goes over to no other router
+stays : (k : Key) (old : Option Row) (r : Row) → IsRouteKey k → goes_over k old (Some r) ≡ false
+stays (key.Route v p) old r is = refl
+stays _ old r is = elim is [ ]
 
 -- ---- the start of a route that is to be there
 
@@ -114,19 +119,19 @@ module _ (plan : Ports) (names : Names) (room : RoomState) (used : List ℕ) (wo
     pub none : IfOk res (λ a. OnErr a (names' ≡ names))
     pub none_room : IfOk res (λ a. OnErr a (room' ≡ room))
 
-  pub brought : (ks : List Key) (applied : Bool) (need : List ℕ) → ks ≡ names_of k r → applied ≡ is_some old → need ≡ places_needed (lacks_shared names group) group applied
-      → IsRouteKey k → ((a : Row) → old ≡ Some a → Fits plan k a) → (first_unapplied names (names_of k r) ≡ None → Fits plan k r) → uses_of plan k (Some r) ≡ owners_of group → AreGroups group
+  pub brought : (ks : List Key) (applied : Bool) (need : List ℕ) → ks ≡ row_names k r → applied ≡ is_some old → need ≡ places_needed (lacks_shared names group) group applied
+      → IsRouteKey k → ((a : Row) → old ≡ Some a → Fits plan k a) → (first_unapplied names (row_names k r) ≡ None → Fits plan k r) → uses_of plan k (Some r) ≡ owners_of group → AreGroups group
       → IsRowStarted ks applied need → IfOk res (λ a. IsBegunBy plan names room used worker k old (Some r) a names' room')
   brought ks applied need is_names is_applied is_need is of_old fits shares groups told =
-      let places_are : first_unapplied names (names_of k r) ≡ None → places_for (built_first (to_build plan names k (Some r)) (own_changes plan k old (Some r))) ≡ places_needed (lacks_shared names group) group (is_some old) = λ none. places plan names group groups k old r is of_old (fits none) shares in
-      let told : IsRowStarted (names_of k r) (is_some old) (places_needed (lacks_shared names group) group (is_some old)) =
-      subst (λ z. IsRowStarted (names_of k r) (is_some old) z) (is_need ∙ ap (places_needed (lacks_shared names group) group) is_applied) (subst (λ z. IsRowStarted (names_of k r) z need) is_applied (subst (λ z. IsRowStarted z applied need) is_names told)) in
+      let places_are : first_unapplied names (row_names k r) ≡ None → places_for (built_first (to_build plan names k (Some r)) (own_changes plan k old (Some r))) ≡ places_needed (lacks_shared names group) group (is_some old) = λ none. places plan names group groups k old r is of_old (fits none) shares in
+      let told : IsRowStarted (row_names k r) (is_some old) (places_needed (lacks_shared names group) group (is_some old)) =
+      subst (λ z. IsRowStarted (row_names k r) (is_some old) z) (is_need ∙ ap (places_needed (lacks_shared names group) group) is_applied) (subst (λ z. IsRowStarted (row_names k r) z need) is_applied (subst (λ z. IsRowStarted z applied need) is_names told)) in
       begun-row-when plan names room used worker k old r (is_some old) group (places_needed (lacks_shared names group) group (is_some old)) names' room' res
-      (λ none. row-waits plan names k r group shares room used worker old (places_needed (lacks_shared names group) group (is_some old)) (places_are none))
+      (λ none. row-waits plan names k r group shares room used worker old (places_needed (lacks_shared names group) group (is_some old)) (stays k old r is) (places_are none))
       (λ none. names_begun plan names group groups worker k old r is of_old (fits none) shares)
       places_are told.free told.begun told.places told.wait told.none told.none_room
 
-pub some-row : (o : Option (Bor Row)) → is_some o ≡ is_some (rows o)
+pub some-row : (o : Option (Bor BareRow)) → is_some o ≡ is_some (rows o)
 some-row None = refl
 some-row (Some r) = refl
 

@@ -8,7 +8,7 @@ use Rattle.swss_types.specs.declared.vrf.Vrf.TheVariants as vrf
 use Rattle.table_schema.specs.Names.{router_names}
 use Rattle.table_schema.specs.Plan.{IsPlan, Ports}
 use Rattle.table_schema.specs.declared.key.Key.TheVariants as key
-use Rattle.table_schema.specs.declared.row.Row.TheVariants as row
+use Rattle.switch_model.specs.Placed as row
 use Rattle.table_schema.specs.declared.row.RouteRow.{RouteRow}
 use Rattle.sai_types.specs.Alike.{IsIn}
 use Rattle.sai_types.specs.Names as thing_name
@@ -37,11 +37,12 @@ use Rattle.ref_counts.specs.declared.name.Name.TheVariants as name
 use Rattle.ref_counts.specs.declared.next.Next.TheVariants as next
 use Rattle.ref_counts.specs.Registered.{first_of}
 use Rattle.ref_counts.specs.Registry.{Names, ids_of}
-use Rattle.orch_flight.specs.Calling.{HasVid, HaveIds, IsChangeFor, IsEnteredBy, IsEntryOf, IsNextOf, IsOver, KnowsIds, pointed, things_retired}
+use Rattle.orch_flight.specs.Calling.{HasVid, HaveIds, IsChangeFor, IsEnteredBy, IsEntryOf, IsNextOf, IsOver, KnowsIds, pointed, router_vid, things_retired}
 use Rattle.orch_flight.specs.Operation.{Operation}
 use Rattle.orch_flight.specs.Sharing.{owner_for}
+use Rattle.orch_flight.proofs.RouterIds.{have_both, router_at}
 use Rattle.route_orch.specs.Targets.{PointsTo, goal_at}
-use Rattle.route_orch.specs.Routes.{RouteState, operation_of_route, route_operation, route_state, router_vid}
+use Rattle.route_orch.specs.Routes.{RouteState, operation_of_route, route_operation, route_state}
 use Rattle.route_orch.specs.declared.flight.RouteBody.{RouteBody}
 use Rattle.route_orch.specs.declared.flight.RouteStep.{RouteStep}
 use Rattle.route_orch.specs.declared.flight.RouteStep.TheVariants as step
@@ -90,20 +91,6 @@ module _ (v : Vrf) (p : Prefix) (at : thing_name.ThingName → Vid → Type 0) w
       let any : Vid = record { 0 = 0 } in
       let (g, same) = is_route t v p is in
       subst (λ z. IsEntryOf at z (entry.Route vr p)) (sym same) (record { body = body.Route (vr_with v j) p (to_with g any); of = any_first g any j there; id = any; numbered = λ h. absurd (false≢true h); is = ap (λ z. entry.Route z p) told })
-
--- ---- the identifier of a route's router
-
-have_both : (names : Names) (v : Vrf) (ns : List Name) → HaveIds names (map name.Row (router_names v) ++ ns) → HaveIds names (map name.Row (router_names v)) × HaveIds names ns
-have_both names vrf.Default ns h = (tt, h)
-have_both names (vrf.Named label) ns h = ((h.0, tt), h.1)
-
-router_at : (plan : Ports) (names : Names) (v : Vrf) (vr : Option Vid) → vr ≡ router_vid names v → HaveIds names (map name.Row (router_names v)) → (j : Vid) × IsAt (HasVid plan names) (router_name v) j × (vr ≡ vr_with v j)
-router_at plan names vrf.Default vr is have = (record { 0 = 0 }, tt, is)
-router_at plan names (vrf.Named label) vr is have = by (first_of (ids_of names (name.Row (key.Vrf label)))) refl have.0
-  where
-    by : (o : Option Vid) → first_of (ids_of names (name.Row (key.Vrf label))) ≡ o → IsSome o → (j : Vid) × (first_of (ids_of names (name.Row (key.Vrf label))) ≡ Some j) × (vr ≡ Some j)
-    by None e some = absurd (false≢true some)
-    by (Some j) e some = (j, e, is ∙ e)
 
 -- the registry has the identifier of the new target
 module _ (v : Vrf) (p : Prefix) (w : ℕ) (applied : Option RouteRow) (t : Target) (leaves retires : Option Name) (names : Names) (r : RouteRow) (f : Operation) where

@@ -7,8 +7,8 @@ use Rattle.swss_types.specs.Vrf.{same_vrf}
 use Rattle.swss_types.specs.contracts.address.PrefixPartialEq.TheImpl as prefix_eq
 use Rattle.table_schema.specs.Plan.{Ports}
 use Rattle.table_schema.specs.declared.key.Key.TheVariants as key
-use Rattle.table_schema.specs.declared.row.Row.{Row}
-use Rattle.table_schema.specs.declared.row.Row.TheVariants as row
+use Rattle.switch_model.specs.Placed.{Placed as Row}
+use Rattle.switch_model.specs.Placed as row
 use Rattle.table_schema.specs.declared.row.RouteRow.{RouteRow}
 use Rattle.sai_types.specs.contracts.thing.GoalPartialEq.TheImpl as goal_eq
 use Rattle.sai_types.specs.contracts.thing.ThingEq.TheImpl.Laws as equal_thing

@@ -3,12 +3,12 @@ use Rattle.std.proofs.Common.{◌≡◌, ℕ, Bool, true, false, if◌then◌els
 use Rattle.std.proofs.lemmas.Option.{same_Some}
 use Rattle.swss_types.specs.declared.address.Prefix.{Prefix}
 use Rattle.swss_types.specs.declared.vrf.Vrf.{Vrf}
-use Rattle.table_schema.specs.Names.{names_of}
 use Rattle.table_schema.specs.Plan.{Ports}
 use Rattle.table_schema.specs.declared.key.Key.{Key}
 use Rattle.table_schema.specs.declared.key.Key.TheVariants as key
-use Rattle.table_schema.specs.declared.row.Row.{Row}
-use Rattle.table_schema.specs.declared.row.Row.TheVariants as row
+use Rattle.table_schema.specs.declared.row.Row.{Row as BareRow}
+use Rattle.switch_model.specs.Placed.{Placed as Row}
+use Rattle.switch_model.specs.Placed as row
 use Rattle.table_schema.specs.declared.row.RouteRow.{RouteRow}
 use Rattle.sai_types.specs.contracts.thing.GoalPartialEq.TheImpl as goal_eq
 use Rattle.switch_model.specs.declared.wait.Wait.{Wait}
@@ -16,10 +16,10 @@ use Rattle.row_layout.specs.Operations.{own_changes, uses_of}
 use Rattle.switch_machine.specs.Flights.{Fits}
 use Rattle.ref_counts.specs.Registry.{Names}
 use Rattle.ref_counts.specs.Room.{RoomState}
-use Rattle.orch_flight.specs.Needing.{first_unapplied, wait_of}
+use Rattle.orch_flight.specs.Needing.{first_unapplied, row_names, wait_of}
 use Rattle.orch_flight.specs.Operation.{Operation}
 use Rattle.orch_flight.specs.Sharing.{MayStart, owner_for, owners_of}
-use Rattle.orch_flight.specs.Starting.{IsBegunBy, IsStartedBy, begun_names, first_due, first_left, leaving, started_operation, flown}
+use Rattle.orch_flight.specs.Starting.{IsBegunBy, IsStartedBy, begun_names, first_due, first_left, leaving, started_operation, flown, in_default}
 use Rattle.orch_flight.proofs.Begins.{none-missing}
 use Rattle.route_orch.specs.Targets.{IsRouteKey, IsRouteRow, IsTargetOf, goal_at}
 use Rattle.route_orch.specs.Routes.{IsFirst, first_operation, first_step, operation_of_route, route_due, route_state, stands_for}
@@ -29,9 +29,9 @@ use Rattle.route_orch.specs.declared.target.Target.{Target}
 use Rattle.route_orch.proofs.Dues.{HasGoal, built-apart, fit-goal, none-left, own-due}
 use Rattle.route_orch.proofs.Starts.{started-due}
 
--- the rows behind references
-abbrev pub rows : Option (Bor Row) → Option Row
-rows o = option_map (λ r. r.now) o
+-- the rows behind references, in their places
+abbrev pub rows : Option (Bor BareRow) → Option Row
+rows o = in_default (option_map (λ r. r.now) o)
 
 -- a row that fits the key of a route is a route's
 fit-row : (plan : Ports) (k : Key) (r : Row) → IsRouteKey k → Fits plan k r → IsRouteRow (Some r)
@@ -49,7 +49,7 @@ pub new-route-row : (plan : Ports) (names : Names) (room : RoomState) (used : Li
 new-route-row plan names room used worker k old None res names' room' began is may begun = tt
 new-route-row plan names room used worker k old (Some r) res names' room' began is may begun =
     let told = subst (λ a. IsBegunBy plan names room used worker k old (Some r) a names' room') began begun in
-    fit-row plan k r is (may.new_fits r refl (none-missing (first_unapplied names (names_of k r)) _ told.0))
+    fit-row plan k r is (may.new_fits r refl (none-missing (first_unapplied names (row_names k r)) _ told.0))
 
 -- the row for which a route stands is the old one at first
 stands-first : (o n : Option RouteRow) (was target : Target) → stands_for (first_step (option_map row.Route o) (option_map row.Route n) was target) o n ≡ o
@@ -102,9 +102,9 @@ module _ (plan : Ports) (names : Names) (worker : ℕ) (v : Vrf) (p : Prefix) (o
       let found = fit-goal plan v p n (λ r e. may.new_fits r e (named n free r e)) in
       (free, sym (operation_first (fit-goal plan v p o may.old_fits) found), is, places)
     where
-      named : (n : Option RouteRow) → wait_of plan names room used worker (key.Route v p) (option_map row.Route o) (option_map row.Route n) ≡ None → (r : Row) → option_map row.Route n ≡ Some r → first_unapplied names (names_of (key.Route v p) r) ≡ None
+      named : (n : Option RouteRow) → wait_of plan names room used worker (key.Route v p) (option_map row.Route o) (option_map row.Route n) ≡ None → (r : Row) → option_map row.Route n ≡ Some r → first_unapplied names (row_names (key.Route v p) r) ≡ None
       named None none r e = absurd cc
-      named (Some q) none r e = subst (λ z. first_unapplied names (names_of (key.Route v p) z) ≡ None) (same_Some (row.Route q) r e) (none-missing (first_unapplied names (names_of (key.Route v p) (row.Route q))) _ none)
+      named (Some q) none r e = subst (λ z. first_unapplied names (row_names (key.Route v p) z) ≡ None) (same_Some (row.Route q) r e) (none-missing (first_unapplied names (row_names (key.Route v p) (row.Route q))) _ none)
 
 abbrev Turns : Ports → Names → RoomState → List ℕ → ℕ → Operation → Result (Unit {0}) Wait → Names → RoomState → Key → Option Row → Option Row → Type 0
 Turns plan names room used worker flight res names' room' k old new = MayStart plan names worker k old new → IsBegunBy plan names room used worker k old new res names' room' → IsStartedBy plan names room used worker k old new (flown flight res) names' room'

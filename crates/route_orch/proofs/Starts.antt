@@ -1,7 +1,7 @@
 -- the start of a route's operation
 use Rattle.std.proofs.Common.{◌≡◌, ℕ, List, [], ◌∷◌, Option, None, refl, sym, ap, ◌∙◌}
 use Rattle.table_schema.specs.declared.key.Key.{Key}
-use Rattle.table_schema.specs.declared.row.Row.{Row}
+use Rattle.switch_model.specs.Placed.{Placed as Row}
 use Rattle.row_layout.specs.Operations.{Change}
 use Rattle.row_layout.specs.Rows.{Owner}
 use Rattle.ref_counts.specs.Registry.{Names}

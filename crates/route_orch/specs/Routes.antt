@@ -6,8 +6,8 @@ use Rattle.swss_types.specs.declared.vrf.Vrf.TheVariants as vrf
 use Rattle.table_schema.specs.Plan.{Ports}
 use Rattle.table_schema.specs.declared.key.Key.{Key}
 use Rattle.table_schema.specs.declared.key.Key.TheVariants as key
-use Rattle.table_schema.specs.declared.row.Row.{Row}
-use Rattle.table_schema.specs.declared.row.Row.TheVariants as row
+use Rattle.switch_model.specs.Placed.{Placed as Row}
+use Rattle.switch_model.specs.Placed as row
 use Rattle.table_schema.specs.declared.row.RouteRow.{RouteRow}
 use Rattle.sai_types.specs.contracts.thing.GoalPartialEq.TheImpl as goal_eq
 use Rattle.sai_types.specs.declared.ids.Vid.{Vid}
@@ -61,11 +61,6 @@ first_step (Some a) (Some r) was target = if goal_eq.ghosts.eq (goal_at was) (go
 -- an operation of which nothing is made
 abbrev pub first_operation : ℕ → Vrf → Prefix → Option RouteRow → Option RouteRow → Target → Target → Operation
 first_operation worker v prefix old new was target = record { worker = worker; key = key.Route v prefix; now = option_map row.Route old; new = option_map row.Route new; due = route_due (first_step (option_map row.Route old) (option_map row.Route new) was target) v prefix (goal_at target); leaves = first_left (owners_of target.group) (owners_of was.group); retires = None }
-
--- the identifier of a virtual router, which the default one has not
-abbrev pub router_vid : Names → Vrf → Option Vid
-router_vid names vrf.Default = None
-router_vid names (vrf.Named label) = first_of (ids_of names (name.Row (key.Vrf label)))
 
 -- the step after one
 abbrev pub later_step : RouteStep → RouteStep

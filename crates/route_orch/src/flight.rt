@@ -1,20 +1,22 @@
 // The operation of a route.
 ghost use Rattle.std.specs.Prelude.{◌≡◌, ◌↔◌, [], Some, option_map, IsTrue, IfOk, OnErr};
 ghost use Rattle.table_schema.specs.Plan.{Ports};
+ghost use Rattle.switch_model.specs.Placed as placed;
+ghost use Rattle.switch_model.specs.Placed.{bare};
 ghost use Rattle.row_layout.specs.Operations.{uses_of};
 ghost use Rattle.row_layout.specs.Rows.{Group};
 ghost use Rattle.ref_counts.specs.Registry.{state_of};
 ghost use Rattle.ref_counts.specs.declared.name.NameState.TheVariants as state;
 ghost use Rattle.orch_flight.specs.Calling.{IsNextOf, IsOver, KnowsIds};
 ghost use Rattle.orch_flight.specs.Sharing.{MayStart, owner_for};
-ghost use Rattle.orch_flight.specs.Starting.{IsStartedBy, answered, left_names, retired_by};
+ghost use Rattle.orch_flight.specs.Starting.{IsStartedBy, answered, in_default, left_names, retired_by};
 ghost use Rattle.orch_flight.specs.Taking.{IsTook, MayTake};
 ghost use Rattle.route_orch.specs.Targets.{AreGroups, IsRouteKey, IsRouteRow};
-ghost use Rattle.route_orch.specs.Routes.{IsFirst, first_step, group_hops, group_owners, later_step, operation_of_route, router_vid};
+ghost use Rattle.route_orch.specs.Routes.{IsFirst, first_step, group_hops, group_owners, later_step, operation_of_route};
 
 use crate::starting::begin;
 use crate::target::{Target, left};
-use orch_flight::leave;
+use orch_flight::{leave, router_vid};
 use ref_counts::{Name, Next, Registry, Room};
 use sai_types::{Attr, Body, Call, Entry, Hops, KindCounts, Vid};
 use std::alloc::Global;
@@ -88,9 +90,9 @@ impl RouteFlight {
         new: Option<Row>,
     ) -> Result<Result<RouteFlight, Wait>, OutOfMemory>
         requires key { IsRouteKey key.now }
-        requires may { MayStart plan.now reg.old worker key.now (option_map (λ r. r.now) old) new }
-        ensures started { IfOk result (λ answer. IsStartedBy plan.now reg.old room.old used.now worker key.now (option_map (λ r. r.now) old.entry) new (answered operation_of_route answer) reg.new room.new) }
-        ensures group { IfOk result (λ answer. IfOk answer (λ f. uses_of plan.now key.now new ≡ group_owners f.group)) }
+        requires may { MayStart plan.now reg.old worker key.now (in_default (option_map (λ r. r.now) old)) (in_default new) }
+        ensures started { IfOk result (λ answer. IsStartedBy plan.now reg.old room.old used.now worker key.now (in_default (option_map (λ r. r.now) old.entry)) (in_default new) (answered operation_of_route answer) reg.new room.new) }
+        ensures group { IfOk result (λ answer. IfOk answer (λ f. uses_of plan.now key.now (in_default new) ≡ group_owners f.group)) }
         ensures err { OnErr result (reg.new ≡ reg.old) }
         ensures err_room { OnErr result (room.new ≡ room.old) }
     {
@@ -154,7 +156,7 @@ impl RouteFlight {
 
     /// The row that the route is to have.
     pub fn into_row(self) -> Option<Row>
-        ensures { result ≡ self.operation.new }
+        ensures { result ≡ option_map bare self.operation.new }
     {
         let RouteFlight { wanted, .. } = self;
         match wanted {
@@ -201,8 +203,8 @@ fn body_of(
     new: Option<&Row>,
 ) -> Result<Box<RouteBody>, OutOfMemory>
     requires key { IsRouteKey key.now }
-    requires old { IsRouteRow (option_map (λ r. r.now) old) }
-    ensures { IfOk result (λ body. IsFirst plan.now worker key.now (option_map (λ r. r.now) old.entry) (option_map (λ r. r.now) new.entry) body.value) }
+    requires old { IsRouteRow (in_default (option_map (λ r. r.now) old)) }
+    ensures { IfOk result (λ body. IsFirst plan.now worker key.now (in_default (option_map (λ r. r.now) old.entry)) (in_default (option_map (λ r. r.now) new.entry)) body.value) }
 {
     let Key::Route(vrf, prefix) = key else {
         unreachable!();
@@ -225,21 +227,11 @@ fn body_of(
     Ok(Box::new(alloc, body)?)
 }
 
-/// The identifier of a virtual router, which the default one has not.
-fn router_vid(reg: &Registry, vrf: Vrf) -> Option<Vid>
-    ensures { result ≡ router_vid reg.now vrf }
-{
-    match vrf {
-        Vrf::Default => None,
-        Vrf::Named(label) => reg.vid_of(&Name::Row(Key::Vrf(label))),
-    }
-}
-
 /// The first step of a route's operation.
 fn first_step(old: Option<&Row>, new: Option<&Row>, was: &Target, target: &Target) -> RouteStep
     requires was { AreGroups was.now.group }
     requires target { AreGroups target.now.group }
-    ensures { result ≡ first_step (option_map (λ r. r.now) old.entry) (option_map (λ r. r.now) new.entry) was.now target.now }
+    ensures { result ≡ first_step (in_default (option_map (λ r. r.now) old.entry)) (in_default (option_map (λ r. r.now) new.entry)) was.now target.now }
 {
     match (old, new) {
         (None, None) => RouteStep::Ended,
@@ -282,8 +274,8 @@ fn part(reg: &mut Registry, worker: u32, vrf: Vrf, prefix: Prefix, group: Name) 
 
 /// A copy of a route's row, where there is one.
 fn copied_row(given: Option<&Row>) -> Result<Option<RouteRow>, OutOfMemory>
-    requires { IsRouteRow (option_map (λ r. r.now) given) }
-    ensures { IfOk result (λ route. option_map Row.Route route ≡ option_map (λ r. r.now) given.entry) }
+    requires { IsRouteRow (in_default (option_map (λ r. r.now) given)) }
+    ensures { IfOk result (λ route. option_map placed.Route route ≡ in_default (option_map (λ r. r.now) given.entry)) }
 {
     match given {
         Some(Row::Route(row)) => Ok(Some(row.copy()?)),
@@ -294,8 +286,8 @@ fn copied_row(given: Option<&Row>) -> Result<Option<RouteRow>, OutOfMemory>
 
 /// A route's row, where there is one.
 fn own_row(given: Option<Row>) -> Option<RouteRow>
-    requires { IsRouteRow given }
-    ensures { option_map Row.Route result ≡ given }
+    requires { IsRouteRow (in_default given) }
+    ensures { option_map placed.Route result ≡ in_default given }
 {
     match given {
         Some(Row::Route(row)) => Some(row),

@@ -2,7 +2,7 @@
 ghost use Rattle.std.specs.Prelude.{◌≡◌, None, Some, option_map, IfOk, OnErr};
 ghost use Rattle.row_layout.specs.Operations.{uses_of};
 ghost use Rattle.orch_flight.specs.Sharing.{MayStart, owners_of};
-ghost use Rattle.orch_flight.specs.Starting.{IsBegunBy};
+ghost use Rattle.orch_flight.specs.Starting.{IsBegunBy, in_default};
 ghost use Rattle.route_orch.specs.Targets.{AreGroups, IsRouteKey};
 ghost use Rattle.route_orch.specs.Routes.{places_needed};
 
@@ -28,10 +28,10 @@ pub fn begin(
     group: &Option<Name>,
 ) -> Result<Result<(), Wait>, OutOfMemory>
     requires key { IsRouteKey key.now }
-    requires may { MayStart plan.now reg.old worker key.now (option_map (λ r. r.now) old) (option_map (λ r. r.now) new) }
-    requires shares { uses_of plan.now key.now (option_map (λ r. r.now) new) ≡ owners_of group.now }
+    requires may { MayStart plan.now reg.old worker key.now (in_default (option_map (λ r. r.now) old)) (in_default (option_map (λ r. r.now) new)) }
+    requires shares { uses_of plan.now key.now (in_default (option_map (λ r. r.now) new)) ≡ owners_of group.now }
     requires groups { AreGroups group.now }
-    ensures begun { IfOk result (λ answer. IsBegunBy plan.now reg.old room.old used.now worker key.now (option_map (λ r. r.now) old.entry) (option_map (λ r. r.now) new.entry) answer reg.new room.new) }
+    ensures begun { IfOk result (λ answer. IsBegunBy plan.now reg.old room.old used.now worker key.now (in_default (option_map (λ r. r.now) old.entry)) (in_default (option_map (λ r. r.now) new.entry)) answer reg.new room.new) }
     ensures err { OnErr result (reg.new ≡ reg.old) }
     ensures err_room { OnErr result (room.new ≡ room.old) }
 {
@@ -56,10 +56,10 @@ fn bring(
     group: &Option<Name>,
 ) -> Result<Result<(), Wait>, OutOfMemory>
     requires key { IsRouteKey key.now }
-    requires may { MayStart _plan.now reg.old worker key.now (option_map (λ r. r.now) old) (Some new.now) }
-    requires shares { uses_of _plan.now key.now (Some new.now) ≡ owners_of group.now }
+    requires may { MayStart _plan.now reg.old worker key.now (in_default (option_map (λ r. r.now) old)) (in_default (Some new.now)) }
+    requires shares { uses_of _plan.now key.now (in_default (Some new.now)) ≡ owners_of group.now }
     requires groups { AreGroups group.now }
-    ensures begun { IfOk result (λ answer. IsBegunBy _plan.now reg.old room.old used.now worker key.now (option_map (λ r. r.now) old.entry) (Some new.now) answer reg.new room.new) }
+    ensures begun { IfOk result (λ answer. IsBegunBy _plan.now reg.old room.old used.now worker key.now (in_default (option_map (λ r. r.now) old.entry)) (in_default (Some new.now)) answer reg.new room.new) }
     ensures err { OnErr result (reg.new ≡ reg.old) }
     ensures err_room { OnErr result (room.new ≡ room.old) }
 {
@@ -107,8 +107,8 @@ fn remove(
     _old: &Row,
 ) -> Result<Result<(), Wait>, OutOfMemory>
     requires key { IsRouteKey key.now }
-    requires may { MayStart _plan.now reg.old worker key.now (Some _old.now) None }
-    ensures begun { IfOk result (λ answer. IsBegunBy _plan.now reg.old room.now used.now worker key.now (Some _old.now) None answer reg.new room.now) }
+    requires may { MayStart _plan.now reg.old worker key.now (in_default (Some _old.now)) None }
+    ensures begun { IfOk result (λ answer. IsBegunBy _plan.now reg.old room.now used.now worker key.now (in_default (Some _old.now)) None answer reg.new room.now) }
     ensures err { OnErr result (reg.new ≡ reg.old) }
 {
     try_remove(reg, worker, key)

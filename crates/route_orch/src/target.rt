@@ -1,16 +1,17 @@
 // Where a route points.
 ghost use Rattle.std.specs.Prelude.{◌≡◌, ◌↔◌, Some, option_map, map, IfOk, IsTrue};
 ghost use Rattle.sai_types.specs.contracts.thing.GoalPartialEq.TheImpl as goal_eq;
+ghost use Rattle.switch_model.specs.Placed as placed;
 ghost use Rattle.orch_flight.specs.Calling.{HaveIds, pointed};
 ghost use Rattle.orch_flight.specs.Sharing.{owner_for, owners_of};
-ghost use Rattle.orch_flight.specs.Starting.{first_left};
+ghost use Rattle.orch_flight.specs.Starting.{first_left, in_default};
 ghost use Rattle.route_orch.specs.Targets.{AreGroups, HasSeveral, IsRouteKey, IsTargetOf, IsToFirst, PointsTo, goal_at, row_way};
 
 use orch_flight::{base_of, shared, vid};
 use ref_counts::{Name, Registry};
 use sai_types::{Base, Hop, To, Vid};
 use std::alloc::Global;
-use swss_types::OutOfMemory;
+use swss_types::{OutOfMemory, Vrf};
 use table_schema::{Key, PortPlan, RouteRow, Row, RowHop};
 
 /// Where a route points that has no group.
@@ -42,7 +43,7 @@ impl Target {
         row: Option<&Row>,
     ) -> Result<Target, OutOfMemory>
         requires { IsRouteKey key.now }
-        ensures { IfOk result (λ target. IsTargetOf plan.now key.now (option_map (λ r. r.now) row.entry) target) }
+        ensures { IfOk result (λ target. IsTargetOf plan.now key.now (in_default (option_map (λ r. r.now) row.entry)) target) }
     {
         let Some(row) = row else {
             return Ok(Target {
@@ -53,7 +54,7 @@ impl Target {
         match row {
             Row::Route(route) => {
                 let group = if has_several(route) {
-                    shared(alloc, plan, key, row)?
+                    shared(alloc, plan, &Vrf::Default, key, row)?
                 } else {
                     None
                 };
@@ -83,7 +84,7 @@ impl Target {
     /// The target of a call, for a row that points there.
     pub fn to(&self, reg: &Registry, row: &RouteRow) -> To<Vid>
         requires groups { AreGroups self.now.group }
-        requires known { HaveIds reg.now (pointed (Some (Row.Route row.now)) (goal_at self.now)) }
+        requires known { HaveIds reg.now (pointed (Some (placed.Route row.now)) (goal_at self.now)) }
         ensures { PointsTo reg.now row.now (goal_at self.now) result }
     {
         match row {

@@ -9,15 +9,15 @@ use Rattle.swss_types.proofs.Routers.{vrf-refl}
 use Rattle.table_schema.specs.Plan.{Ports}
 use Rattle.table_schema.specs.declared.key.Key.{Key}
 use Rattle.table_schema.specs.declared.key.Key.TheVariants as key
-use Rattle.table_schema.specs.declared.row.Row.{Row}
-use Rattle.table_schema.specs.declared.row.Row.TheVariants as row
 use Rattle.table_schema.proofs.Keys.{key_total}
 use Rattle.sai_types.specs.contracts.thing.ThingEq.TheImpl.Laws as equal_thing
 use Rattle.sai_types.specs.declared.thing.Thing.{Thing}
 use Rattle.sai_types.specs.declared.thing.Thing.TheVariants as thing
 use Rattle.sai_types.specs.Alike.{IsIn}
 use Rattle.sai_types.specs.Refusal.{same_ip}
-use Rattle.row_layout.specs.Operations.{Change, Set, changes_of, own_sets, build_all, thing_of_port, retire_all, same_owner, set_all, set_to, unshared}
+use Rattle.switch_model.specs.Placed as row
+use Rattle.switch_model.specs.Placed.{Placed as Row}
+use Rattle.row_layout.specs.Operations.{Change, Set, changes_of, make_all, own_sets, build_all, take_all, thing_of_port, retire_all, same_owner, set_all, set_to, unshared}
 use Rattle.row_layout.specs.Rows.{Owner, OfRow, Bridge, Own, Group, own_things}
 use Rattle.row_layout.specs.Shared.{uses}
 
@@ -32,6 +32,7 @@ pub own_same : (plan : Ports) (k : Key) (r : Row) → own_sets plan k r r ≡ []
 own_same plan (key.Port port) (row.Port r) =
     let t = thing_of_port r.lanes r.speed r.mtu r.up in
     set_none t (set_to t t (set_to t t [])) ∙ set_none t (set_to t t []) ∙ set_none t []
+own_same plan (key.Intf n) (row.Intf v) = ap (λ b. if b then [] else take_all (own_things plan (key.Intf n) (row.Intf v)) (make_all (own_things plan (key.Intf n) (row.Intf v)) [])) (vrf-refl v)
 own_same plan k r = set_same (own_things plan k r)
 
 owner_same : (o : Owner) → same_owner o o ≡ true

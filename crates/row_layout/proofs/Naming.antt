@@ -10,12 +10,10 @@ use Rattle.swss_types.specs.declared.interface.IfName.TheVariants as on
 use Rattle.swss_types.specs.declared.vrf.Vrf.{Vrf}
 use Rattle.swss_types.specs.declared.vrf.Vrf.TheVariants as vrf
 use Rattle.swss_types.proofs.Proper.{mapped}
-use Rattle.table_schema.specs.Names.{names_of, router_names}
+use Rattle.table_schema.specs.Names.{base_names, router_names}
 use Rattle.table_schema.specs.Plan.{Ports, IsPlan}
 use Rattle.table_schema.specs.declared.key.Key.{Key}
 use Rattle.table_schema.specs.declared.key.Key.TheVariants as key
-use Rattle.table_schema.specs.declared.row.Row.{Row}
-use Rattle.table_schema.specs.declared.row.Row.TheVariants as row
 use Rattle.table_schema.specs.declared.row.RouteRow.{RouteRow}
 use Rattle.table_schema.specs.declared.row.RouteRow.TheVariants as route
 use Rattle.table_schema.specs.declared.row_hop.RowHop.{RowHop}
@@ -28,6 +26,8 @@ use Rattle.sai_types.specs.declared.thing.Thing.{Thing}
 use Rattle.sai_types.specs.declared.thing.Thing.TheVariants as thing
 use Rattle.sai_types.specs.Alike.{IsIn}
 use Rattle.sai_types.specs.Hop.{put_hop}
+use Rattle.switch_model.specs.Placed as row
+use Rattle.switch_model.specs.Placed.{Placed as Row, placed_names as names_of}
 use Rattle.switch_model.specs.Things.{base_of, hop_of, hops_of, lane_of, whop_of}
 use Rattle.sai_types.specs.Names as name
 use Rattle.sai_types.specs.Names.{ThingName, Refers, base_name, goal_names, with_router}
@@ -71,14 +71,15 @@ module _ (plan : Ports) (is : IsPlan plan) where
   by_owner : (q : Key) (r : Row) (k : ThingName) (p : Key) → owner_of plan k ≡ Some (owner.OfRow p) → IsIn p (names_of q r) → IsNamed q r k
   by_owner q r k p owns h other e = inl (subst (λ z. IsIn z (names_of q r)) (owners p other (sym owns ∙ e)) h)
 
-  base_owner : (n : IfName) (b : Base) (r : Row) → base_of plan n ≡ Some b → IsNamed (key.Intf n) r (base_name b)
-  base_owner (on.Ethernet p) b r h =
+  base_owner : (n : IfName) (b : Base) (v : Vrf) → base_of plan n ≡ Some b → IsNamed (key.Intf n) (row.Intf v) (base_name b)
+  base_owner (on.Ethernet p) b v h =
       let m = mapped base.Port (lane_of plan p) b h in
-      subst (λ z. IsNamed (key.Intf (on.Ethernet p)) r (base_name z)) m.2 (by_owner (key.Intf (on.Ethernet p)) r (name.Port m.0) (key.Port p) (ap (option_map (λ x. owner.OfRow (key.Port x))) (port_by plan is p m.0 m.1)) (inl refl))
-  base_owner (on.Vlan v) b r h =
-      let same : base.Vlan v ≡ b = cc in
-      subst (λ z. IsNamed (key.Intf (on.Vlan v)) r (base_name z)) same (by_owner (key.Intf (on.Vlan v)) r (name.Vlan v) (key.Vlan v) refl (inl refl))
-  base_owner (on.Loopback n) b r h = absurd cc
+      subst (λ z. IsNamed (key.Intf (on.Ethernet p)) (row.Intf v) (base_name z)) m.2
+      (by_owner (key.Intf (on.Ethernet p)) (row.Intf v) (name.Port m.0) (key.Port p) (ap (option_map (λ x. owner.OfRow (key.Port x))) (port_by plan is p m.0 m.1)) (inl refl))
+  base_owner (on.Vlan n) b v h =
+      let same : base.Vlan n ≡ b = cc in
+      subst (λ z. IsNamed (key.Intf (on.Vlan n)) (row.Intf v) (base_name z)) same (by_owner (key.Intf (on.Vlan n)) (row.Intf v) (name.Vlan n) (key.Vlan n) refl (inl refl))
+  base_owner (on.Loopback n) b v h = absurd cc
 
   rif_owner : (n : IfName) (b : Base) → base_of plan n ≡ Some b → owner_of plan (name.Rif b) ≡ Some (owner.OfRow (key.Intf n))
   rif_owner n b h = ap (option_map (λ m. owner.OfRow (key.Intf m))) (interface_by plan is n b h)
@@ -136,15 +137,20 @@ module _ (plan : Ports) (is : IsPlan plan) where
       by (inl i) = router_owner (key.Route v prefix) (row.Route r) v (λ p j. in-left p (router_names v) _ j) k i
       by (inr i) = route_refers v prefix r g e k i
 
+  intf_refers : (n : IfName) (v : Vrf) (b : Base) → base_of plan n ≡ Some b → AreNamed (key.Intf n) (row.Intf v) (thing.Rif b v)
+  intf_refers n v b e k h = by (beside_router v (base_name b ∷ []) k h)
+    where
+      by : IsIn k (with_router v []) ⊎ IsIn k (base_name b ∷ []) → IsNamed (key.Intf n) (row.Intf v) k
+      by (inl i) = router_owner (key.Intf n) (row.Intf v) v (λ p j. in-right p (base_names n) (router_names v) j) k i
+      by (inr i) = only (IsNamed (key.Intf n) (row.Intf v)) k (base_name b) (base_owner n b v e) i
+
   -- what a thing of a row refers to belongs to a row that it names, to the row itself, or to no row
   pub refers-named : (q : Key) (r : Row) (t : Thing) → IsIn t (own_things plan q r) → AreNamed q r t
   refers-named (key.Port p) (row.Port r) t h = only (AreNamed (key.Port p) (row.Port r)) t _ (λ k e. elim e [ ]) (from_in (lane_of plan p) _ t h).2
   refers-named (key.Vlan v) row.Vlan t h = only (AreNamed (key.Vlan v) row.Vlan) t (thing.Vlan v) (λ k e. elim e [ ]) h
   refers-named (key.Vrf label) row.Vrf t h = only (AreNamed (key.Vrf label) row.Vrf) t (thing.VirtualRouter label) (λ k e. elim e [ ]) h
   refers-named (key.Member v p) (row.Member tagging) t h = let m = from_in (lane_of plan p) _ t h in only (AreNamed (key.Member v p) (row.Member tagging)) t _ (member_refers v p m.0 (row.Member tagging) tagging) m.2
-  refers-named (key.Intf n) row.Intf t h =
-      let m = from_in (base_of plan n) _ t h in
-      only (AreNamed (key.Intf n) row.Intf) t _ (λ k e. only (IsNamed (key.Intf n) row.Intf) k (base_name m.0) (base_owner n m.0 row.Intf m.1) e) m.2
+  refers-named (key.Intf n) (row.Intf v) t h = let m = from_in (base_of plan n) _ t h in only (AreNamed (key.Intf n) (row.Intf v)) t _ (intf_refers n v m.0 m.1) m.2
   refers-named (key.Neigh n ip) (row.Neigh mac) t h = let m = from_in (base_of plan n) _ t h in two (AreNamed (key.Neigh n ip) (row.Neigh mac)) t _ _ (neighbor_refers n ip m.0 (row.Neigh mac) mac m.1) (next_hop_refers n ip m.0 (row.Neigh mac) m.1) m.2
   refers-named (key.Route v prefix) (row.Route r) t h = let m = from_in (goal_of plan r) _ t h in only (AreNamed (key.Route v prefix) (row.Route r)) t _ (route_thing_refers v prefix r m.0 m.1) m.2
   refers-named _ _ t h = elim h [ ]

@@ -8,13 +8,10 @@ use Rattle.std.proofs.lemmas.Option.{same_Some}
 use Rattle.swss_types.specs.Lanes.{IsLaneList}
 use Rattle.swss_types.specs.declared.interface.IfName.{IfName}
 use Rattle.swss_types.specs.declared.interface.IfName.TheVariants as on
-use Rattle.swss_types.specs.declared.vrf.Vrf.TheVariants as vrf
 use Rattle.swss_types.proofs.Proper.{mapped}
 use Rattle.table_schema.specs.Plan.{Ports, IsPlan, HaveOwnLanes, has, has_lane, lanes_in_plan, port_named}
 use Rattle.table_schema.specs.declared.key.Key.{Key}
 use Rattle.table_schema.specs.declared.key.Key.TheVariants as key
-use Rattle.table_schema.specs.declared.row.Row.{Row}
-use Rattle.table_schema.specs.declared.row.Row.TheVariants as row
 use Rattle.sai_types.specs.declared.hop.Base.{Base}
 use Rattle.sai_types.specs.declared.hop.Base.TheVariants as base
 use Rattle.sai_types.specs.declared.weight.WHop.{WHop}
@@ -22,6 +19,8 @@ use Rattle.sai_types.specs.declared.thing.Thing.{Thing}
 use Rattle.sai_types.specs.declared.thing.Thing.TheVariants as thing
 use Rattle.sai_types.specs.Alike.{IsIn}
 use Rattle.sai_types.specs.Named.{first_lane}
+use Rattle.switch_model.specs.Placed as row
+use Rattle.switch_model.specs.Placed.{Placed as Row}
 use Rattle.switch_model.specs.Things.{base_of, lane_of, members_of}
 use Rattle.sai_types.specs.Names.{name_of}
 use Rattle.row_layout.specs.Rows as owner
@@ -71,9 +70,9 @@ module _ (plan : Ports) (is : IsPlan plan) where
   own (key.Member vlan port) (row.Member tagging) t planned h =
       let m = from_in (lane_of plan port) _ t h in
       only (IsOwn (key.Member vlan port)) t (thing.VlanMember vlan m.0 tagging) (ap (option_map (λ p. owner.OfRow (key.Member vlan p))) (port_by port m.0 m.1)) m.2
-  own (key.Intf n) row.Intf t planned h =
+  own (key.Intf n) (row.Intf v) t planned h =
       let m = from_in (base_of plan n) _ t h in
-      only (IsOwn (key.Intf n)) t (thing.Rif m.0 vrf.Default) (ap (option_map (λ x. owner.OfRow (key.Intf x))) (interface_by n m.0 m.1)) m.2
+      only (IsOwn (key.Intf n)) t (thing.Rif m.0 v) (ap (option_map (λ x. owner.OfRow (key.Intf x))) (interface_by n m.0 m.1)) m.2
   own (key.Neigh n ip) (row.Neigh mac) t planned h =
       let m = from_in (base_of plan n) _ t h in
       let named = ap (option_map (λ x. owner.OfRow (key.Neigh x ip))) (interface_by n m.0 m.1) in

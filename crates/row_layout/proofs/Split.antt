@@ -5,12 +5,9 @@ use Rattle.swss_types.specs.declared.address.Prefix.{Prefix}
 use Rattle.swss_types.specs.declared.interface.IfName.{IfName}
 use Rattle.swss_types.specs.declared.interface.IfName.TheVariants as name
 use Rattle.swss_types.specs.declared.vrf.Vrf.{Vrf}
-use Rattle.swss_types.specs.declared.vrf.Vrf.TheVariants as vrf
 use Rattle.table_schema.specs.Plan.{Ports}
 use Rattle.table_schema.specs.declared.key.Key.{Key}
 use Rattle.table_schema.specs.declared.key.Key.TheVariants as key
-use Rattle.table_schema.specs.declared.row.Row.{Row}
-use Rattle.table_schema.specs.declared.row.Row.TheVariants as row
 use Rattle.table_schema.specs.declared.row.RouteRow.TheVariants as route
 use Rattle.sai_types.specs.declared.hop.Base.{Base}
 use Rattle.sai_types.specs.declared.weight.WHop.{WHop}
@@ -18,6 +15,8 @@ use Rattle.sai_types.specs.declared.thing.Goal.TheVariants as goal
 use Rattle.sai_types.specs.declared.thing.Thing.{Thing}
 use Rattle.sai_types.specs.declared.thing.Thing.TheVariants as thing
 use Rattle.sai_types.specs.Alike.{IsIn}
+use Rattle.switch_model.specs.Placed as row
+use Rattle.switch_model.specs.Placed.{Placed as Row}
 use Rattle.switch_model.specs.Things.{address_things, base_of, from_base, from_hops, from_lane, hops_of, lane_of, members_of, things_of}
 use Rattle.row_layout.specs.Rows.{Owner, Bridge, Own, Group, from, goal_to, own_things}
 use Rattle.row_layout.specs.Shared.{IsOf, address_uses, group_by, shared_things, uses}
@@ -74,17 +73,17 @@ member_split vlan t (Some lane) = with_one (t lane ∷ []) (thing.BridgePort lan
     shared x (inr h) = elim h [ ]
 
 -- an own address is what its row uses
-address_alone : (ip : Ip) → Splits (thing.Own vrf.Default ip ∷ []) [] (Own vrf.Default ip ∷ [])
-address_alone ip = with_one [] (thing.Own vrf.Default ip ∷ []) (Own vrf.Default ip) (λ x h. inl h) (λ x h. h) (λ x h. elim h [ ])
+address_alone : (v : Vrf) (ip : Ip) → Splits (thing.Own v ip ∷ []) [] (Own v ip ∷ [])
+address_alone v ip = with_one [] (thing.Own v ip ∷ []) (Own v ip) (λ x h. inl h) (λ x h. h) (λ x h. elim h [ ])
 
-lane_address : (ip : Ip) (o : Option ℕ) → Splits (from_lane (λ lane. thing.Own vrf.Default ip ∷ []) o) [] (from o (λ lane. Own vrf.Default ip ∷ []))
-lane_address ip None = all_own []
-lane_address ip (Some lane) = address_alone ip
+lane_address : (v : Vrf) (ip : Ip) (o : Option ℕ) → Splits (from_lane (λ lane. thing.Own v ip ∷ []) o) [] (from o (λ lane. Own v ip ∷ []))
+lane_address v ip None = all_own []
+lane_address v ip (Some lane) = address_alone v ip
 
-address_split : (plan : Ports) (on : IfName) (ip : Ip) → Splits (address_things plan on ip) [] (address_uses plan on ip)
-address_split plan (name.Ethernet port) ip = lane_address ip (lane_of plan port)
-address_split plan (name.Vlan vlan) ip = address_alone ip
-address_split plan (name.Loopback number) ip = address_alone ip
+address_split : (plan : Ports) (on : IfName) (v : Vrf) (ip : Ip) → Splits (address_things plan on v ip) [] (address_uses plan on v ip)
+address_split plan (name.Ethernet port) v ip = lane_address v ip (lane_of plan port)
+address_split plan (name.Vlan vlan) v ip = address_alone v ip
+address_split plan (name.Loopback number) v ip = address_alone v ip
 
 group_split : (v : Vrf) (prefix : Prefix) (group : List WHop) → Splits (thing.Route v prefix (goal.Group group) ∷ thing.Group group ∷ members_of group group) (thing.Route v prefix (goal.Group group) ∷ []) (Group group ∷ [])
 group_split v prefix group = with_one (thing.Route v prefix (goal.Group group) ∷ []) (thing.Route v prefix (goal.Group group) ∷ thing.Group group ∷ members_of group group) (Group group) parts (λ x h. inr h) mine
@@ -109,8 +108,8 @@ things-split plan (key.Port p) (row.Port r) = lane_own _ (lane_of plan p)
 things-split plan (key.Vlan v) row.Vlan = all_own (thing.Vlan v ∷ [])
 things-split plan (key.Vrf n) row.Vrf = all_own (thing.VirtualRouter n ∷ [])
 things-split plan (key.Member v p) (row.Member tagging) = member_split v (λ lane. thing.VlanMember v lane tagging) (lane_of plan p)
-things-split plan (key.Intf n) row.Intf = base_own _ (base_of plan n)
-things-split plan (key.Addr n ip len) row.Addr = address_split plan n ip
+things-split plan (key.Intf n) (row.Intf v) = base_own _ (base_of plan n)
+things-split plan (key.Addr n ip len) (row.Addr v) = address_split plan n v ip
 things-split plan (key.Neigh n ip) (row.Neigh mac) = base_own _ (base_of plan n)
 things-split plan (key.Route v prefix) (row.Route route.Drop) = all_own (thing.Route v prefix goal.Drop ∷ [])
 things-split plan (key.Route v prefix) (row.Route (route.Direct n)) = direct (base_of plan n)

@@ -1,4 +1,4 @@
--- three things that rows share, and a router with a route, worked out by computation: nothing cites them, and they show that the definitions say what is meant
+-- three things that rows share, a router with a route, and an interface that moves, worked out by computation: nothing cites them, and they show that the definitions say what is meant
 use Rattle.std.proofs.Common.{◌≡◌, ℕ, ◌+◌, Bool, true, false, List, [], ◌∷◌, None, Some, codes, refl}
 use Rattle.swss_types.specs.declared.address.Family.TheVariants.{V4}
 use Rattle.swss_types.specs.declared.address.Ip.{Ip}
@@ -10,14 +10,14 @@ use Rattle.swss_types.specs.declared.vrf.VrfName.{VrfName}
 use Rattle.swss_types.specs.VrfNames.{filled_label}
 use Rattle.table_schema.specs.Plan.{Ports}
 use Rattle.table_schema.specs.declared.key.Key.TheVariants as key
-use Rattle.table_schema.specs.declared.row.Row.{Row}
-use Rattle.table_schema.specs.declared.row.Row.TheVariants as row
 use Rattle.table_schema.specs.declared.row.RouteRow.TheVariants as route
 use Rattle.sai_types.specs.declared.hop.Base.TheVariants as base
 use Rattle.sai_types.specs.declared.weight.WHop.{WHop}
 use Rattle.sai_types.specs.declared.thing.Goal.TheVariants as goal
 use Rattle.sai_types.specs.declared.thing.Thing.TheVariants as thing
 use Rattle.sai_types.specs.Names as name
+use Rattle.switch_model.specs.Placed as row
+use Rattle.switch_model.specs.Placed.{Placed as Row}
 use Rattle.row_layout.specs.Operations.{Make, Set, Take, changes_of}
 use Rattle.row_layout.specs.Rows.{Owner}
 
@@ -54,16 +54,16 @@ last_member_goes = refl
 abbrev ten : ℕ → Ip
 ten n = record { family = V4; bits = 167772160 + n }
 
-first_address : changes_of ports (key.Addr (on.Ethernet 0) (ten 1) 24) None (Some row.Addr) alone ≡ Make (thing.Own vrf.Default (ten 1)) ∷ []
+first_address : changes_of ports (key.Addr (on.Ethernet 0) (ten 1) 24) None (Some (row.Addr vrf.Default)) alone ≡ Make (thing.Own vrf.Default (ten 1)) ∷ []
 first_address = refl
 
-second_address : changes_of ports (key.Addr (on.Vlan 10) (ten 1) 31) None (Some row.Addr) shared ≡ []
+second_address : changes_of ports (key.Addr (on.Vlan 10) (ten 1) 31) None (Some (row.Addr vrf.Default)) shared ≡ []
 second_address = refl
 
-address_goes : changes_of ports (key.Addr (on.Ethernet 0) (ten 1) 24) (Some row.Addr) None shared ≡ []
+address_goes : changes_of ports (key.Addr (on.Ethernet 0) (ten 1) 24) (Some (row.Addr vrf.Default)) None shared ≡ []
 address_goes = refl
 
-last_address_goes : changes_of ports (key.Addr (on.Vlan 10) (ten 1) 31) (Some row.Addr) None alone ≡ Take (name.Own vrf.Default (ten 1)) ∷ []
+last_address_goes : changes_of ports (key.Addr (on.Vlan 10) (ten 1) 31) (Some (row.Addr vrf.Default)) None alone ≡ Take (name.Own vrf.Default (ten 1)) ∷ []
 last_address_goes = refl
 
 -- ---- a group that two routes share
@@ -109,3 +109,17 @@ router_goes = refl
 
 route_in_router : changes_of ports (key.Route (vrf.Named red) (net 512)) None (Some hops) shared ≡ Make (thing.Route (vrf.Named red) (net 512) (goal.Group group)) ∷ []
 route_in_router = refl
+
+-- ---- an interface that goes over to another router, and an address in it
+
+interface_moves : changes_of ports (key.Intf (on.Ethernet 0)) (Some (row.Intf vrf.Default)) (Some (row.Intf (vrf.Named red))) alone ≡ Take (name.Rif (base.Port 0)) ∷ Make (thing.Rif (base.Port 0) (vrf.Named red)) ∷ []
+interface_moves = refl
+
+interface_stays : changes_of ports (key.Intf (on.Ethernet 0)) (Some (row.Intf (vrf.Named red))) (Some (row.Intf (vrf.Named red))) alone ≡ []
+interface_stays = refl
+
+loopback_moves : changes_of ports (key.Intf (on.Loopback 0)) (Some (row.Intf vrf.Default)) (Some (row.Intf (vrf.Named red))) alone ≡ []
+loopback_moves = refl
+
+address_in_router : changes_of ports (key.Addr (on.Loopback 0) (ten 1) 32) None (Some (row.Addr (vrf.Named red))) alone ≡ Make (thing.Own (vrf.Named red) (ten 1)) ∷ []
+address_in_router = refl

@@ -7,13 +7,13 @@ use Rattle.table_schema.specs.Key.{key_cmp}
 use Rattle.table_schema.specs.Plan.{Ports}
 use Rattle.table_schema.specs.declared.key.Key.{Key}
 use Rattle.table_schema.specs.declared.key.Key.TheVariants as key
-use Rattle.table_schema.specs.declared.row.Row.{Row}
-use Rattle.table_schema.specs.declared.row.Row.TheVariants as row
 use Rattle.sai_types.specs.contracts.thing.ThingPartialEq.TheImpl as thing_eq
 use Rattle.sai_types.specs.declared.thing.Thing.{Thing}
 use Rattle.sai_types.specs.declared.thing.Thing.TheVariants as thing
 use Rattle.sai_types.specs.Names.{ThingName, name_of}
 use Rattle.sai_types.specs.Refusal.{same_ip}
+use Rattle.switch_model.specs.Placed as row
+use Rattle.switch_model.specs.Placed.{Placed as Row}
 use Rattle.switch_model.specs.Things.{base_of, members_of}
 use Rattle.row_layout.specs.Rows.{Owner, OfRow, Bridge, Own, Group, from, own_things}
 use Rattle.row_layout.specs.Shared.{shared_things, uses}
@@ -64,12 +64,14 @@ shared_going o = shared_things o
 abbrev pub thing_of_port : List ℕ → ℕ → ℕ → Bool → Thing
 thing_of_port lanes speed mtu up = thing.Port (record { lanes = lanes; speed = speed; mtu = mtu; up = up })
 
--- from one row to another: of a port the speed, the mtu and whether it is up, one after the other
+-- from one row to another: an interface that goes over to another router goes and is made there; of a port the speed, the mtu and whether it is up, one after the other
 abbrev pub own_sets : Ports → Key → Row → Row → List Change
 own_sets plan (key.Port port) (row.Port a) (row.Port r) =
     set_to (thing_of_port a.lanes a.speed a.mtu a.up) (thing_of_port a.lanes r.speed a.mtu a.up)
     (set_to (thing_of_port a.lanes r.speed a.mtu a.up) (thing_of_port a.lanes r.speed r.mtu a.up)
     (set_to (thing_of_port a.lanes r.speed r.mtu a.up) (thing_of_port a.lanes r.speed r.mtu r.up) []))
+own_sets plan (key.Intf n) (row.Intf v) (row.Intf w) =
+    if same_vrf v w then [] else take_all (own_things plan (key.Intf n) (row.Intf v)) (make_all (own_things plan (key.Intf n) (row.Intf w)) [])
 own_sets plan k a r = set_all (own_things plan k a) (own_things plan k r)
 
 -- the changes of a key's own things

@@ -4,12 +4,9 @@ use Rattle.swss_types.specs.declared.address.Ip.{Ip}
 use Rattle.swss_types.specs.declared.interface.IfName.{IfName}
 use Rattle.swss_types.specs.declared.interface.IfName.TheVariants as on
 use Rattle.swss_types.specs.declared.vrf.Vrf.{Vrf}
-use Rattle.swss_types.specs.declared.vrf.Vrf.TheVariants as vrf
 use Rattle.table_schema.specs.Plan.{Ports, lanes_in_plan, port_named}
 use Rattle.table_schema.specs.declared.key.Key.{Key}
 use Rattle.table_schema.specs.declared.key.Key.TheVariants as key
-use Rattle.table_schema.specs.declared.row.Row.{Row}
-use Rattle.table_schema.specs.declared.row.Row.TheVariants as row
 use Rattle.table_schema.specs.declared.row.RouteRow.{RouteRow}
 use Rattle.table_schema.specs.declared.row.RouteRow.TheVariants as route
 use Rattle.sai_types.specs.declared.hop.Base.{Base}
@@ -19,6 +16,8 @@ use Rattle.sai_types.specs.declared.thing.Goal.{Goal}
 use Rattle.sai_types.specs.declared.thing.Goal.TheVariants as goal
 use Rattle.sai_types.specs.declared.thing.Thing.{Thing}
 use Rattle.sai_types.specs.declared.thing.Thing.TheVariants as thing
+use Rattle.switch_model.specs.Placed as row
+use Rattle.switch_model.specs.Placed.{Placed as Row}
 use Rattle.switch_model.specs.Things.{base_of, hops_of, lane_of}
 use Rattle.sai_types.specs.Names.{ThingName}
 use Rattle.sai_types.specs.Names as name
@@ -72,7 +71,7 @@ own_things plan (key.Port port) (row.Port r) = from (lane_of plan port) (λ lane
 own_things plan (key.Vlan vlan) row.Vlan = thing.Vlan vlan ∷ []
 own_things plan (key.Vrf label) row.Vrf = thing.VirtualRouter label ∷ []
 own_things plan (key.Member vlan port) (row.Member tagging) = from (lane_of plan port) (λ lane. thing.VlanMember vlan lane tagging ∷ [])
-own_things plan (key.Intf n) row.Intf = from (base_of plan n) (λ b. thing.Rif b vrf.Default ∷ [])
+own_things plan (key.Intf n) (row.Intf v) = from (base_of plan n) (λ b. thing.Rif b v ∷ [])
 own_things plan (key.Neigh n ip) (row.Neigh mac) = from (base_of plan n) (λ b. thing.Neighbor (record { on = b; ip = ip }) mac ∷ thing.NextHop (record { on = b; ip = ip }) ∷ [])
 own_things plan (key.Route v prefix) (row.Route r) = from (goal_of plan r) (λ g. thing.Route v prefix g ∷ [])
 own_things plan _ _ = []

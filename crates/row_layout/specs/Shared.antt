@@ -3,17 +3,17 @@ use Rattle.std.specs.Prelude.{◌⊎◌, List, [], ◌∷◌, Option, Some, None
 use Rattle.swss_types.specs.declared.address.Ip.{Ip}
 use Rattle.swss_types.specs.declared.interface.IfName.{IfName}
 use Rattle.swss_types.specs.declared.interface.IfName.TheVariants as name
-use Rattle.swss_types.specs.declared.vrf.Vrf.TheVariants as vrf
+use Rattle.swss_types.specs.declared.vrf.Vrf.{Vrf}
 use Rattle.table_schema.specs.Plan.{Ports}
 use Rattle.table_schema.specs.declared.key.Key.{Key}
 use Rattle.table_schema.specs.declared.key.Key.TheVariants as key
-use Rattle.table_schema.specs.declared.row.Row.{Row}
-use Rattle.table_schema.specs.declared.row.Row.TheVariants as row
 use Rattle.table_schema.specs.declared.row.RouteRow.{RouteRow}
 use Rattle.table_schema.specs.declared.row.RouteRow.TheVariants as route
 use Rattle.sai_types.specs.declared.weight.WHop.{WHop}
 use Rattle.sai_types.specs.declared.thing.Thing.{Thing}
 use Rattle.sai_types.specs.declared.thing.Thing.TheVariants as thing
+use Rattle.switch_model.specs.Placed as row
+use Rattle.switch_model.specs.Placed.{Placed as Row}
 use Rattle.switch_model.specs.Things.{hops_of, lane_of, members_of}
 use Rattle.sai_types.specs.Alike.{IsIn}
 use Rattle.row_layout.specs.Rows.{Owner, OfRow, Bridge, Own, Group, IsPlanned, from, own_things}
@@ -36,16 +36,16 @@ route_uses plan route.Drop = []
 route_uses plan (route.Direct n) = []
 route_uses plan (route.Hops hops) = group_by (hops_of plan hops)
 
--- the own address of an interface, in the default router: none where its port is not in the plan
-abbrev pub address_uses : Ports → IfName → Ip → List Owner
-address_uses plan (name.Ethernet port) ip = from (lane_of plan port) (λ lane. Own vrf.Default ip ∷ [])
-address_uses plan (name.Vlan vlan) ip = Own vrf.Default ip ∷ []
-address_uses plan (name.Loopback number) ip = Own vrf.Default ip ∷ []
+-- the own address of an interface: none where its port is not in the plan
+abbrev pub address_uses : Ports → IfName → Vrf → Ip → List Owner
+address_uses plan (name.Ethernet port) v ip = from (lane_of plan port) (λ lane. Own v ip ∷ [])
+address_uses plan (name.Vlan vlan) v ip = Own v ip ∷ []
+address_uses plan (name.Loopback number) v ip = Own v ip ∷ []
 
 -- what a row uses with others
 abbrev pub uses : Ports → Key → Row → List Owner
 uses plan (key.Member vlan port) (row.Member tagging) = from (lane_of plan port) (λ lane. Bridge lane ∷ [])
-uses plan (key.Addr n ip len) row.Addr = address_uses plan n ip
+uses plan (key.Addr n ip len) (row.Addr v) = address_uses plan n v ip
 uses plan (key.Route v prefix) (row.Route r) = route_uses plan r
 uses plan _ _ = []
 

@@ -1,12 +1,11 @@
 // To whom things belong. Each function is a law: it does nothing, and its contract is proved.
 ghost use Rattle.std.specs.Prelude.{◌≡◌, ◌⊎◌, Bool, List, [], Some};
-ghost use Rattle.table_schema.specs.Names.{names_of};
 ghost use Rattle.table_schema.specs.Plan.{IsPlan, Ports};
 ghost use Rattle.table_schema.specs.declared.key.Key.{Key};
-ghost use Rattle.table_schema.specs.declared.row.Row.{Row};
 ghost use Rattle.sai_types.specs.declared.thing.Thing.{Thing};
 ghost use Rattle.sai_types.specs.Alike.{IsIn};
 ghost use Rattle.sai_types.specs.Names.{ThingName, Refers, name_of};
+ghost use Rattle.switch_model.specs.Placed.{Placed as Row, placed_names as names_of};
 ghost use Rattle.switch_model.specs.Things.{things_of};
 ghost use Rattle.row_layout.specs.Operations.{changes_of};
 ghost use Rattle.row_layout.specs.Rows.{Owner, OfRow, own_things, owner_of};

@@ -1,5 +1,6 @@
 -- an answer of a call of a worker is a step
 use Rattle.std.proofs.Common.{◌≡◌, ◌∷◌, ◌∙◌, inl, inr, ℕ, List, [], Option, None, Some, option_map, is_some, refl, sym, ap, subst}
+use Rattle.std.proofs.lemmas.Option.{same_Some}
 use Rattle.table_schema.specs.Plan.{IsPlan}
 use Rattle.table_schema.specs.declared.key.Key.{Key}
 use Rattle.table_schema.specs.declared.row.Row.{Row}
@@ -14,11 +15,13 @@ use Rattle.sai_types.specs.Made.{made_after}
 use Rattle.sai_types.specs.Refusal.{IsLegal}
 use Rattle.chip_layout.specs.Layout as layout
 use Rattle.chip_layout.specs.Renamed.{call_renamed}
+use Rattle.switch_model.specs.Placed.{bare, bare_rows}
 use Rattle.row_layout.specs.Operations.{Change}
 use Rattle.switch_machine.specs.Events.{Follows as Event, IsAnswer, SwitchState}
 use Rattle.switch_machine.specs.Flights.{Machine, put}
 use Rattle.switch_machine.specs.Steps.{moved}
 use Rattle.switch_machine.proofs.Splits.{IsSplit, key_split, put_at}
+use Rattle.machine_laws.proofs.Rows.{bare_with}
 use Rattle.ref_counts.specs.Registry.{Names}
 use Rattle.registry_laws.specs.Ending.{ended_names}
 use Rattle.registry_laws.specs.Flown.{Flown, due_for, flight_of}
@@ -27,6 +30,7 @@ use Rattle.registry_laws.specs.Identified.{tie_by}
 use Rattle.registry_laws.specs.Calls.{TiesFollowCall}
 use Rattle.registry_laws.specs.Standing.{HasBegun, StandsFor, with_answer}
 use Rattle.registry_laws.proofs.Core.Answered as answers
+use Rattle.registry_laws.proofs.Core.Ends.{took-ends}
 use Rattle.registry_laws.proofs.Core.Taken.{may_take_next}
 use Rattle.asic_view.specs.View.{ViewObjects, rid_at}
 use Rattle.syncd_core.specs.Synced.{Calls, IsMadeOnChip, SyncState, with_view}
@@ -34,7 +38,7 @@ use Rattle.apply_laws.specs.Ties.{AreTied}
 use Rattle.apply_laws.proofs.Tying.Calls.{tied-made, ties-after}
 use Rattle.restart_laws.specs.Logged.{LoggedService}
 use Rattle.flight_board.specs.Applied.{row_at}
-use Rattle.flight_board.specs.Board.{BoardState, FlightState, BoardFollows, IsTakenFor, flown_at}
+use Rattle.flight_board.specs.Board.{BoardState, FlightState, BoardFollows, IsTakenFor, MayEndThen, flown_at}
 use Rattle.warm_state.specs.declared.warm.Warm.TheVariants as warm
 use Rattle.session_laws.specs.Core.{CoreState}
 use Rattle.session_laws.specs.Events.{IsMachineStep, MakesOne, vid_made_by, session_with}
@@ -42,6 +46,7 @@ use Rattle.session_laws.specs.Standing.{IsSessionOf, IsWorking}
 use Rattle.session_laws.proofs.Called.{answered, capacities_then, clean_then, effects_then, legal_on, made_then, objects_then, whole}
 use Rattle.session_laws.proofs.Following.{key_kept, rows_by, rows_ended, rows_kept}
 use Rattle.session_laws.proofs.Making.{machine_step}
+use Rattle.session_laws.proofs.Places.{in-places}
 use Rattle.session_laws.proofs.Preparing.{flown_alike, stands_on, ties_alike}
 use Rattle.session_laws.proofs.Tying.{IsWell, follow, makes_on_chip, well}
 
@@ -91,6 +96,12 @@ module _ (c : CoreState) (chip : ChipState) (s : LoggedService) (is : IsSessionO
   pub may : MayTakeFor x.operation x.group (vid_made_by a) c.board.names
   may = may_take_next c.board.plan is.plan c.sync.capacities c.board.names c.board.room (flown_at c.board) rid core its.stands w x there call (vid_made_by a) number begun told
 
+  -- where nothing more is due for its operation, that may end
+  pub may_end_then : MayEndThen c.board w (vid_made_by a)
+  may_end_then y x' names' at took empty =
+      let same = same_Some x y (sym there ∙ at) in
+      took-ends c.board.plan is.plan c.sync.capacities c.board.names c.board.room (flown_at c.board) rid core its.stands w names' x x' (vid_made_by a) there begun (subst (λ (z : Flown). TookFor z.operation z.group (vid_made_by a) c.board.names x' names') (sym same) took) empty
+
   module _ (b : BoardState) (x' : Flown) (names' : Names) (took : TookFor x.operation x.group (vid_made_by a) c.board.names x' names') (follows : BoardFollows w x' names' c.board.room c.board b) where
     abbrev c' : CoreState
     c' = record c { board = b; sync = with_view c.sync view' }
@@ -104,7 +115,7 @@ module _ (c : CoreState) (chip : ChipState) (s : LoggedService) (is : IsSessionO
     event : (t : Machine) (z : Answers t) → Event c.board.plan w (moved core.machine w z.0.next.rest z.0.stands) t
     event t z = subst (λ v. Event c.board.plan v (moved core.machine v z.0.next.rest z.0.stands) t) z.1 z.0.follows
 
-    step : (t : Machine) → Answers t → StandsFor b.plan c.sync.capacities b.names b.room (flown_at b) (rid_at view') (with t) → ((k : Key) → t.board.applied k ≡ row_at b.applied k) → AnswersFor c s w c' chip'
+    step : (t : Machine) → Answers t → StandsFor b.plan c.sync.capacities b.names b.room (flown_at b) (rid_at view') (with t) → ((k : Key) → bare_rows t.board.applied k ≡ row_at b.applied k) → AnswersFor c s w c' chip'
     step t z stands rows = (
       record {
         later = session_with s (with t) (Some d);
@@ -142,19 +153,20 @@ module _ (c : CoreState) (chip : ChipState) (s : LoggedService) (is : IsSessionO
         let flying = y.2.board.flying w x' (put_at w w (Some x') (flown_at c.board) refl) in
         step y.0 y.1
         (stands_on c.sync.capacities (rid_at view') (with y.0) b c.board.plan names' c.board.room (put w (Some x') (flown_at c.board)) follows.others.plan goes.names_are goes.room_is (flown_alike c.board b w (Some x') goes.flying follows.others.flights) y.2)
-        (λ k. rows_kept c.board.plan w (moved core.machine w y.1.0.next.rest y.1.0.stands) y.0 (flight_of x'.operation) (event y.0 y.1) flying.flying k ∙ its.rows k ∙ rows_all x'.operation.key (row_at c.board.applied) (row_at b.applied) goes.row follows.others.rows k)
+        (λ k. ap (option_map bare) (rows_kept c.board.plan w (moved core.machine w y.1.0.next.rest y.1.0.stands) y.0 (flight_of x'.operation) (event y.0 y.1) flying.flying k) ∙ its.rows k ∙ rows_all x'.operation.key (row_at c.board.applied) (row_at b.applied) goes.row follows.others.rows k)
 
     over : due_for c.board.plan names' x' ≡ [] → AnswersFor c s w c' chip'
     over empty =
         let ends = follows.over empty in
         let kept = key_kept x.operation x.group (vid_made_by a) c.board.names x' names' took in
-        let y = (answers.answered c.board.plan is.plan c.sync.capacities c.board.names c.board.room (flown_at c.board) rid core its.stands w x there call (vid_made_by a) (rid_at view') number ties begun told x' names' took).1 b.room empty ends.room_is in
+        let y = (answers.answered c.board.plan is.plan c.sync.capacities c.board.names c.board.room (flown_at c.board) rid core its.stands w x there call (vid_made_by a) (rid_at view') number ties begun told x' names' took).1 b.room (may_end_then x x' names' there took empty) empty ends.room_is in
         let none = y.2.board.idle w (put_at w w None (flown_at c.board) refl) in
         step y.0 y.1
         (stands_on c.sync.capacities (rid_at view') (with y.0) b c.board.plan (ended_names names' w x'.operation.key (core.machine.board.applied x'.operation.key) x'.operation.new) b.room (put w None (flown_at c.board)) follows.others.plan
-        (ends.names_are ∙ ap (λ o. ended_names names' w x'.operation.key o x'.operation.new) (sym (its.rows x'.operation.key))) refl (flown_alike c.board b w None (ap (option_map (λ (f : FlightState). f.flown)) ends.none) follows.others.flights) y.2)
-        (λ k. rows_ended c.board.plan w (moved core.machine w y.1.0.next.rest y.1.0.stands) y.0 (flight_of x.operation) (event y.0 y.1) (its.stands.board.flying w x there).flying none k
-        ∙ rows_by x.operation.key x.operation.new core.machine.board.applied (row_at b.applied) (ap (row_at b.applied) (sym kept.0) ∙ ends.row ∙ kept.1) (λ q apart. follows.others.rows q (λ h. apart (h ∙ kept.0)) ∙ sym (its.rows q)) k)
+        (ends.names_are ∙ ap (λ o. ended_names names' w x'.operation.key o x'.operation.new) (sym (in-places c chip core its x'.operation.key))) refl (flown_alike c.board b w None (ap (option_map (λ (f : FlightState). f.flown)) ends.none) follows.others.flights) y.2)
+        (λ k. ap (option_map bare) (rows_ended c.board.plan w (moved core.machine w y.1.0.next.rest y.1.0.stands) y.0 (flight_of x.operation) (event y.0 y.1) (its.stands.board.flying w x there).flying none k)
+        ∙ bare_with x.operation.key x.operation.new core.machine.board.applied k
+        ∙ rows_by x.operation.key (option_map bare x.operation.new) (bare_rows core.machine.board.applied) (row_at b.applied) (ap (row_at b.applied) (sym kept.0) ∙ ends.row ∙ ap (option_map bare) kept.1) (λ q apart. follows.others.rows q (λ h. apart (h ∙ kept.0)) ∙ sym (its.rows q)) k)
 
     either : AnswersFor c s w c' chip'
     either = by (due_for c.board.plan names' x') refl
@@ -173,6 +185,9 @@ module _ (c : CoreState) (chip : ChipState) (s : LoggedService) (is : IsSessionO
 
   pub may_take : MayTakeFor x.operation x.group (vid_made_by a) c.board.names
   may_take = may c chip s is at w x there begun call told a went calls_none.0 chip' calls_none.2
+
+  pub ends_then : MayEndThen c.board w (vid_made_by a)
+  ends_then = may_end_then c chip s is at w x there begun call told a went calls_none.0 chip' calls_none.2
 
   pub answers_step : (b : BoardState) → IsTakenFor c.board w (vid_made_by a) b → AnswersFor c s w (record c { board = b; sync = sync' }) chip'
   answers_step b taken = subst (λ z. AnswersFor c s w (record c { board = b; sync = z }) chip') (sym calls_none.1) (answer_step c chip s is at w x there begun call told a went calls_none.0 chip' calls_none.2 b taken)

@@ -4,6 +4,7 @@ pub mod Writing
 pub mod Popping
 pub mod Preparing
 pub mod Following
+pub mod Places
 pub mod Tying
 pub mod Called
 pub mod Answering

@@ -1,14 +1,17 @@
 -- What each call of the core comes to: steps of the service, and the session that it stands for then. Own.
-use Rattle.std.specs.Prelude.{◌≡◌, ◌++◌, List, [], ◌∷◌, Option, Some, None}
+use Rattle.std.specs.Prelude.{◌≡◌, ◌++◌, ℕ, List, [], ◌∷◌, Option, Some, None}
 use Rattle.sai_types.specs.declared.answer.SyncAnswer.{SyncAnswer}
 use Rattle.sai_types.specs.declared.answer.SyncAnswer.TheVariants as sync
 use Rattle.sai_types.specs.declared.body.Call.{Call}
 use Rattle.sai_types.specs.declared.ids.Rid.{Rid}
 use Rattle.sai_types.specs.declared.ids.Vid.{Vid}
+use Rattle.sai_types.specs.declared.kind.Kind.{Kind}
 use Rattle.sai_types.specs.ChipState.{ChipState}
+use Rattle.sai_types.specs.Objects.{Objects, used}
 use Rattle.switch_model.specs.Marks.{Waiting}
 use Rattle.switch_machine.specs.Events.{SwitchState, with_made_call}
 use Rattle.switch_machine.specs.Reasons.{IsReason}
+use Rattle.ref_counts.specs.Room.{number_of_kind}
 use Rattle.restart_laws.specs.Logged.{AreLoggedSteps, IsLoggedStep, LoggedService, session_after}
 use Rattle.flight_board.specs.Applied.{row_at}
 use Rattle.session_laws.specs.Core.{CoreState}
@@ -46,6 +49,10 @@ pub record MakesSome (c : CoreState) (s : LoggedService) (c' : CoreState) (chip'
 abbrev pub vid_made_by : SyncAnswer → Option Vid
 vid_made_by (sync.Made v) = Some v
 vid_made_by _ = None
+
+-- these numbers are those of the objects of each kind
+abbrev pub CountObjects : Objects → List ℕ → Type 0
+CountObjects objects numbers = (kind : Kind) → number_of_kind numbers kind ≡ used objects kind
 
 -- each listed key has a true reason and its applied row
 abbrev pub HaveReasons : CoreState → SwitchState → Waiting → Type 0

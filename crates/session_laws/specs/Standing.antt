@@ -7,6 +7,7 @@ use Rattle.sai_types.specs.After.{next_id}
 use Rattle.sai_types.specs.ChipState.{ChipState}
 use Rattle.switch_model.specs.History.{listed_by}
 use Rattle.switch_model.specs.Marks.{sent_writes}
+use Rattle.switch_model.specs.Placed.{bare_rows}
 use Rattle.switch_machine.specs.Events.{SwitchState}
 use Rattle.switch_machine.specs.Written.{HasNoWrite}
 use Rattle.machine_laws.specs.Reading.{IsOnSwitch}
@@ -20,10 +21,10 @@ use Rattle.flight_board.specs.Board.{flown_at}
 use Rattle.warm_state.specs.declared.warm.Warm.TheVariants as warm
 use Rattle.session_laws.specs.Core.{CoreState}
 
--- while reconciled: the board and the identifiers stand for the machine, its applied rows are the board's, and the view is tied to the chip
+-- while reconciled: the board and the identifiers stand for the machine, its applied rows are those of the board in their places, and the view is tied to the chip
 pub record IsWorking (c : CoreState) (chip : ChipState) (s : SwitchState) : Type 0 where
   pub stands : StandsFor c.board.plan c.sync.capacities c.board.names c.board.room (flown_at c.board) (rid_at c.sync.view) s
-  pub rows : (k : Key) → s.machine.board.applied k ≡ row_at c.board.applied k
+  pub rows : (k : Key) → bare_rows s.machine.board.applied k ≡ row_at c.board.applied k
   pub tied : AreTied c.sync.view s.made chip.objects
   pub no_view : c.sync.temporary ≡ None
   pub no_plan : c.sync.left ≡ []

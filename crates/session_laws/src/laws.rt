@@ -25,7 +25,6 @@ ghost use Rattle.switch_machine.specs.Next.{IsIdle, MustWait};
 ghost use Rattle.switch_machine.specs.Reasons.{IsReason};
 ghost use Rattle.ref_counts.specs.Room.{number_of_kind};
 ghost use Rattle.orch_flight.specs.Sharing.{MayStart};
-ghost use Rattle.registry_laws.specs.Registers.{AreUsed};
 ghost use Rattle.asic_view.specs.View.{used_of};
 ghost use Rattle.switch_machine.specs.Written.{HasNoWrite, IsPopped, IsPoppedKey};
 ghost use Rattle.machine_laws.specs.Logged.{ListsKey, LogsMark};
@@ -36,11 +35,11 @@ ghost use Rattle.registry_laws.specs.Standing.{HasBegun};
 ghost use Rattle.sync_tables.specs.Tables.{IsToSync, PopsKeys, PopsSome, TablesState};
 ghost use Rattle.syncd_core.specs.Synced.{CanCall, Calls, SyncState, current};
 ghost use Rattle.restart_laws.specs.Logged.{LoggedService, new_session, session_after, switch_of};
-ghost use Rattle.flight_board.specs.Applied.{row_at};
-ghost use Rattle.flight_board.specs.Board.{BoardState, IsBegunFor, IsFlownAt, IsPrepared, IsCallReady, IsTakenFor, IsUnflown, flown_at};
+ghost use Rattle.flight_board.specs.Applied.{placed_at, placed_for, row_at};
+ghost use Rattle.flight_board.specs.Board.{BoardState, IsBegunFor, IsFlownAt, IsPrepared, IsCallReady, IsTakenFor, IsUnflown, MayEndAtOnce, MayEndThen, flown_at};
 ghost use Rattle.warm_state.specs.declared.warm.Warm.TheVariants as warm;
 ghost use Rattle.session_laws.specs.Core.{CoreState, good_in, mark_at, new_core, size_beside, with_taken};
-ghost use Rattle.session_laws.specs.Events.{HaveReasons, IsMachineStep, MakesOne, MakesSome, vid_made_by};
+ghost use Rattle.session_laws.specs.Events.{CountObjects, HaveReasons, IsMachineStep, MakesOne, MakesSome, vid_made_by};
 ghost use Rattle.session_laws.specs.Standing.{IsSessionOf};
 ghost use Rattle.session_laws.specs.Workers.{StaysByFirst};
 
@@ -71,9 +70,11 @@ pub fn calls_can_be_made()
     ensures { (c : CoreState) (chip : ChipState) (s : LoggedService) (w : ℕ) (x : Flown) (call : Call Vid) → IsSessionOf c chip s → c.warm ≡ warm.Reconciled → flown_at c.board w ≡ Some x → HasBegun c.board.plan c.board.names x → IsNextCall c.board.plan c.board.names x.operation x.group call → CanCall c.sync c.sync.temporary chip call }
 {}
 
-/// The answer of a call that did not fail may be taken, and then it is a step, an Answer of the machine for the worker.
+/// The answer of a call that did not fail may be taken, and then it is a step, an Answer of the machine for the worker. An operation
+/// for which nothing is due behind it may end.
 pub fn answers_are_steps()
     ensures may { (c : CoreState) (chip : ChipState) (s : LoggedService) (w : ℕ) (x : Flown) (call : Call Vid) (a : SyncAnswer) (sync' : SyncState) (chip' : ChipState) → IsSessionOf c chip s → c.warm ≡ warm.Reconciled → flown_at c.board w ≡ Some x → HasBegun c.board.plan c.board.names x → IsNextCall c.board.plan c.board.names x.operation x.group call → (a ≡ sync.Failed → ⊥) → Calls c.sync c.sync.temporary chip call a sync' chip' → MayTakeFor x.operation x.group (vid_made_by a) c.board.names }
+    ensures ends { (c : CoreState) (chip : ChipState) (s : LoggedService) (w : ℕ) (x : Flown) (call : Call Vid) (a : SyncAnswer) (sync' : SyncState) (chip' : ChipState) → IsSessionOf c chip s → c.warm ≡ warm.Reconciled → flown_at c.board w ≡ Some x → HasBegun c.board.plan c.board.names x → IsNextCall c.board.plan c.board.names x.operation x.group call → (a ≡ sync.Failed → ⊥) → Calls c.sync c.sync.temporary chip call a sync' chip' → MayEndThen c.board w (vid_made_by a) }
     ensures makes { (c : CoreState) (chip : ChipState) (s : LoggedService) (w : ℕ) (x : Flown) (call : Call Vid) (a : SyncAnswer) (sync' : SyncState) (chip' : ChipState) (b : BoardState) → IsSessionOf c chip s → c.warm ≡ warm.Reconciled → flown_at c.board w ≡ Some x → HasBegun c.board.plan c.board.names x → IsNextCall c.board.plan c.board.names x.operation x.group call → (a ≡ sync.Failed → ⊥) → Calls c.sync c.sync.temporary chip call a sync' chip' → IsTakenFor c.board w (vid_made_by a) b → (y : MakesOne c s (record c { board = b; sync = sync' }) chip') × (e : Call Rid) × (z : IsAnswer c.board.plan 4 e s.service.core y.later.service.core) × (z.next.worker ≡ w) × IsMachineStep s (Some e) y.later }
 {}
 
@@ -91,13 +92,15 @@ pub fn drops_are_steps()
 
 /// A key to sync that no worker has under way, and whose good row is another than its applied one, may begin for a worker that has
 /// nothing under way. Where its operation begins that is a step, a Begin of the machine; where it waits the session stays, and the wait
-/// is a true reason; and one that a worker has waits for that worker. What syncd counts is what stands on the chip.
+/// is a true reason; and one that a worker has waits for that worker. One for which no call is due may end at once. What syncd counts
+/// is what stands on the chip.
 pub fn keys_are_tried()
-    ensures may { (c : CoreState) (chip : ChipState) (s : LoggedService) (w : ℕ) (k : Key) → IsSessionOf c chip s → c.warm ≡ warm.Reconciled → IsToSync c.tables k → w < 4 → flown_at c.board w ≡ None → (row_at c.board.applied k ≡ good_in c k → ⊥) → IsUnflown c.board k → MayStart c.board.plan c.board.names w k (row_at c.board.applied k) (good_in c k) }
-    ensures begins { (c : CoreState) (chip : ChipState) (s : LoggedService) (w : ℕ) (k : Key) (used : List ℕ) (x : Unit {0}) (b : BoardState) → IsSessionOf c chip s → c.warm ≡ warm.Reconciled → AreOpsInOrder c.tables.ops → IsToSync c.tables k → w < 4 → flown_at c.board w ≡ None → (IsUnflown c.board k → row_at c.board.applied k ≡ good_in c k → ⊥) → AreUsed s.service.core.objects used → IsBegunFor c.board used w k (good_in c k) (Ok x) b → (x : MakesOne c s (record c { board = b; tables = record c.tables { ops = without_op c.tables.ops k } }) chip) × (y : IsBegin c.board.plan 4 c.sync.capacities s.service.core x.later.service.core) × (y.worker ≡ w) × (y.flight.key ≡ k) × IsMachineStep s None x.later }
-    ensures waits { (c : CoreState) (chip : ChipState) (s : LoggedService) (w : ℕ) (k : Key) (used : List ℕ) (r : Wait) (b : BoardState) → IsSessionOf c chip s → c.warm ≡ warm.Reconciled → IsToSync c.tables k → w < 4 → flown_at c.board w ≡ None → (IsUnflown c.board k → row_at c.board.applied k ≡ good_in c k → ⊥) → AreUsed s.service.core.objects used → IsBegunFor c.board used w k (good_in c k) (Err r) b → IsSessionOf (record c { board = b }) chip s × IsReason c.board.plan 4 c.sync.capacities s.service.core k r }
+    ensures may { (c : CoreState) (chip : ChipState) (s : LoggedService) (w : ℕ) (k : Key) → IsSessionOf c chip s → c.warm ≡ warm.Reconciled → IsToSync c.tables k → w < 4 → flown_at c.board w ≡ None → (row_at c.board.applied k ≡ good_in c k → ⊥) → IsUnflown c.board k → MayStart c.board.plan c.board.names w k (placed_at c.board.applied k) (placed_for c.board.applied k (good_in c k)) }
+    ensures ends { (c : CoreState) (chip : ChipState) (s : LoggedService) (w : ℕ) (k : Key) (used : List ℕ) → IsSessionOf c chip s → c.warm ≡ warm.Reconciled → AreOpsInOrder c.tables.ops → IsToSync c.tables k → w < 4 → flown_at c.board w ≡ None → (row_at c.board.applied k ≡ good_in c k → ⊥) → CountObjects s.service.core.objects used → IsUnflown c.board k → MayEndAtOnce c.board used w k (good_in c k) }
+    ensures begins { (c : CoreState) (chip : ChipState) (s : LoggedService) (w : ℕ) (k : Key) (used : List ℕ) (x : Unit {0}) (b : BoardState) → IsSessionOf c chip s → c.warm ≡ warm.Reconciled → AreOpsInOrder c.tables.ops → IsToSync c.tables k → w < 4 → flown_at c.board w ≡ None → (IsUnflown c.board k → row_at c.board.applied k ≡ good_in c k → ⊥) → CountObjects s.service.core.objects used → IsBegunFor c.board used w k (good_in c k) (Ok x) b → (x : MakesOne c s (record c { board = b; tables = record c.tables { ops = without_op c.tables.ops k } }) chip) × (y : IsBegin c.board.plan 4 c.sync.capacities s.service.core x.later.service.core) × (y.worker ≡ w) × (y.flight.key ≡ k) × IsMachineStep s None x.later }
+    ensures waits { (c : CoreState) (chip : ChipState) (s : LoggedService) (w : ℕ) (k : Key) (used : List ℕ) (r : Wait) (b : BoardState) → IsSessionOf c chip s → c.warm ≡ warm.Reconciled → IsToSync c.tables k → w < 4 → flown_at c.board w ≡ None → (IsUnflown c.board k → row_at c.board.applied k ≡ good_in c k → ⊥) → CountObjects s.service.core.objects used → IsBegunFor c.board used w k (good_in c k) (Err r) b → IsSessionOf (record c { board = b }) chip s × IsReason c.board.plan 4 c.sync.capacities s.service.core k r }
     ensures busy { (c : CoreState) (chip : ChipState) (s : LoggedService) (k : Key) (v : ℕ) → IsSessionOf c chip s → c.warm ≡ warm.Reconciled → IsFlownAt c.board k v → IsReason c.board.plan 4 c.sync.capacities s.service.core k (wait.Busy v) }
-    ensures counts { (c : CoreState) (chip : ChipState) (s : LoggedService) (numbers : List ℕ) → IsSessionOf c chip s → c.warm ≡ warm.Reconciled → ((kind : Kind) → number_of_kind numbers kind ≡ used_of (current c.sync) kind) → AreUsed s.service.core.objects numbers }
+    ensures counts { (c : CoreState) (chip : ChipState) (s : LoggedService) (numbers : List ℕ) → IsSessionOf c chip s → c.warm ≡ warm.Reconciled → ((kind : Kind) → number_of_kind numbers kind ≡ used_of (current c.sync) kind) → CountObjects s.service.core.objects numbers }
 {}
 
 /// Where nothing waits in the tables, no worker has anything under way, and each key to sync is listed with a true reason and its applied

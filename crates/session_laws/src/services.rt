@@ -31,8 +31,8 @@ ghost use Rattle.syncd_core.specs.Begun.{Begins, CanBegin};
 ghost use Rattle.syncd_core.specs.Synced.{Applies, CanApply, CanCall, Calls, SyncState, TakesList, current};
 ghost use Rattle.syncd_core.specs.declared.answer.ApplyStep.TheVariants as step;
 ghost use Rattle.syncd_core.specs.declared.answer.Listed.TheVariants as listed;
-ghost use Rattle.flight_board.specs.Applied.{row_at};
-ghost use Rattle.flight_board.specs.Board.{BoardState, IsBegunFor, IsPrepared, IsCallReady, IsTakenFor, IsUnflown, flown_at};
+ghost use Rattle.flight_board.specs.Applied.{placed_at, placed_for, row_at};
+ghost use Rattle.flight_board.specs.Board.{BoardState, IsBegunFor, IsPrepared, IsCallReady, IsTakenFor, IsUnflown, MayEndAtOnce, MayEndThen, flown_at};
 ghost use Rattle.restart_laws.specs.Logged.{AreLoggedSteps, LoggedService, new_session, session_after};
 ghost use Rattle.restart_laws.specs.Restored.{waiting_of};
 ghost use Rattle.warm_state.specs.declared.warm.Warm.TheVariants as warm;
@@ -100,25 +100,29 @@ pub fn apply_calls_are_steps()
 {}
 
 /// The building of a view begins with all rows to sync, over an empty view. Of the keys in their order each has its good row, or waits for
-/// the reason that the board answers, or its operation begins. A building that is given up leaves the session as it was.
+/// the reason that the board answers, or its operation begins, which may end at once where no call is due for it. A building that is
+/// given up leaves the session as it was.
 pub fn rows_are_gone_over()
     ensures begins { (first : CoreState) (chip : ChipState) (s : LoggedService) (ops : Ops) → IsServiceOf first chip s → first.warm ≡ warm.Restored → first.tables.waiting ≡ [] → AreOpsInOrder ops → ((k : Key) → IsIn k (keys_of ops) → fields_at first.tables.rows k ≡ None → ⊥) → ((k : Key) → (fields_at first.tables.rows k ≡ None) ⊎ IsIn k (keys_of ops)) → IsBuilt first (building first ops) (keys_of ops) }
     ensures there { (first c : CoreState) (k : Key) (rest : List Key) → IsBuilt first c (k ∷ rest) → IsToSync c.tables k }
     ensures drops { (first c : CoreState) (k : Key) (rest : List Key) → IsBuilt first c (k ∷ rest) → AreOpsInOrder c.tables.ops → IsUnflown c.board k → row_at c.board.applied k ≡ good_in c k → IsBuilt first (record c { tables = record c.tables { ops = without_op c.tables.ops k } }) rest }
-    ensures may { (first c : CoreState) (k : Key) (rest : List Key) → IsBuilt first c (k ∷ rest) → AreOpsInOrder c.tables.ops → (IsUnflown c.board k → row_at c.board.applied k ≡ good_in c k → ⊥) → IsUnflown c.board k → MayStart c.board.plan c.board.names 0 k (row_at c.board.applied k) (good_in c k) }
+    ensures may { (first c : CoreState) (k : Key) (rest : List Key) → IsBuilt first c (k ∷ rest) → AreOpsInOrder c.tables.ops → (IsUnflown c.board k → row_at c.board.applied k ≡ good_in c k → ⊥) → IsUnflown c.board k → MayStart c.board.plan c.board.names 0 k (placed_at c.board.applied k) (placed_for c.board.applied k (good_in c k)) }
+    ensures over { (first c : CoreState) (k : Key) (rest : List Key) (numbers : List ℕ) → IsBuilt first c (k ∷ rest) → AreOpsInOrder c.tables.ops → (IsUnflown c.board k → row_at c.board.applied k ≡ good_in c k → ⊥) → ((kind : Kind) → number_of_kind numbers kind ≡ used_of (current c.sync) kind) → IsUnflown c.board k → MayEndAtOnce c.board numbers 0 k (good_in c k) }
     ensures waits { (first c : CoreState) (k : Key) (rest : List Key) (numbers : List ℕ) (r : Wait) (b : BoardState) → IsBuilt first c (k ∷ rest) → AreOpsInOrder c.tables.ops → (IsUnflown c.board k → row_at c.board.applied k ≡ good_in c k → ⊥) → ((kind : Kind) → number_of_kind numbers kind ≡ used_of (current c.sync) kind) → IsBegunFor c.board numbers 0 k (good_in c k) (Err r) b → IsBuilt first (record c { board = b; waiting = with_reason c.waiting k r }) rest }
     ensures starts { (first c : CoreState) (k : Key) (rest : List Key) (numbers : List ℕ) (u : Unit {0}) (b : BoardState) → IsBuilt first c (k ∷ rest) → AreOpsInOrder c.tables.ops → (IsUnflown c.board k → row_at c.board.applied k ≡ good_in c k → ⊥) → ((kind : Kind) → number_of_kind numbers kind ≡ used_of (current c.sync) kind) → IsBegunFor c.board numbers 0 k (good_in c k) (Ok u) b → IsBringing first (record c { board = b; tables = record c.tables { ops = without_op c.tables.ops k } }) rest }
     ensures given_up { (first c : CoreState) (chip : ChipState) (s : LoggedService) → IsServiceOf first chip s → first.warm ≡ warm.Restored → IsBeside first c → IsServiceOf (given_up c) chip s }
 {}
 
 /// An operation that has begun in a building is run by the same calls as ever, on the temporary view alone: its next call can be told and
-/// made, and its answer may be taken. Where nothing is under way any more, the building goes on with the other keys.
+/// made, and its answer may be taken, and with it the operation may end where nothing more is due. Where nothing is under way any more,
+/// the building goes on with the other keys.
 pub fn operations_are_run_on_the_view()
     ensures prepared { (first c : CoreState) (rest : List Key) (b : BoardState) (f : Flown) → IsBringing first c rest → IsPrepared c.board 0 b → flown_at c.board 0 ≡ Some f → IsBringing first (record c { board = b }) rest }
     ensures begun { (first c : CoreState) (rest : List Key) (b : BoardState) (f g : Flown) → IsBringing first c rest → IsPrepared c.board 0 b → flown_at c.board 0 ≡ Some f → flown_at b 0 ≡ Some g → HasBegun b.plan b.names g }
     ensures ready { (first c : CoreState) (rest : List Key) (b : BoardState) (f g : Flown) → IsBringing first c rest → IsPrepared c.board 0 b → flown_at c.board 0 ≡ Some f → flown_at b 0 ≡ Some g → IsCallReady b.plan b.names g }
     ensures can { (first c : CoreState) (rest : List Key) (f : Flown) (call : Call Vid) (chip : ChipState) → IsBringing first c rest → flown_at c.board 0 ≡ Some f → HasBegun c.board.plan c.board.names f → IsNextCall c.board.plan c.board.names f.operation f.group call → CanCall c.sync c.sync.temporary chip call }
     ensures may { (first c : CoreState) (rest : List Key) (f : Flown) (call : Call Vid) (chip : ChipState) (a : SyncAnswer) (y : SyncState) (chip' : ChipState) → IsBringing first c rest → flown_at c.board 0 ≡ Some f → HasBegun c.board.plan c.board.names f → IsNextCall c.board.plan c.board.names f.operation f.group call → Calls c.sync c.sync.temporary chip call a y chip' → MayTakeFor f.operation f.group (vid_made_by a) c.board.names }
+    ensures over { (first c : CoreState) (rest : List Key) (f : Flown) (call : Call Vid) (chip : ChipState) (a : SyncAnswer) (y : SyncState) (chip' : ChipState) → IsBringing first c rest → flown_at c.board 0 ≡ Some f → HasBegun c.board.plan c.board.names f → IsNextCall c.board.plan c.board.names f.operation f.group call → Calls c.sync c.sync.temporary chip call a y chip' → MayEndThen c.board 0 (vid_made_by a) }
     ensures called { (first c : CoreState) (rest : List Key) (f : Flown) (call : Call Vid) (chip : ChipState) (a : SyncAnswer) (y : SyncState) (chip' : ChipState) (b : BoardState) → IsBringing first c rest → flown_at c.board 0 ≡ Some f → HasBegun c.board.plan c.board.names f → IsNextCall c.board.plan c.board.names f.operation f.group call → Calls c.sync c.sync.temporary chip call a y chip' → IsTakenFor c.board 0 (vid_made_by a) b → IsBringing first (record c { board = b; sync = y }) rest × (chip' ≡ chip) }
     ensures ends { (first c : CoreState) (rest : List Key) → IsBringing first c rest → flown_at c.board 0 ≡ None → IsBuilt first c rest }
 {}

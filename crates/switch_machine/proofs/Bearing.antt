@@ -4,8 +4,6 @@ use Rattle.swss_types.specs.declared.address.Prefix.{Prefix}
 use Rattle.swss_types.specs.declared.vrf.Vrf.{Vrf}
 use Rattle.table_schema.specs.Plan.{Ports}
 use Rattle.table_schema.specs.declared.key.Key.TheVariants as key
-use Rattle.table_schema.specs.declared.row.Row.{Row}
-use Rattle.table_schema.specs.declared.row.Row.TheVariants as row
 use Rattle.table_schema.specs.declared.row.RouteRow.TheVariants as route
 use Rattle.sai_types.specs.declared.weight.WHop.{WHop}
 use Rattle.sai_types.specs.declared.thing.Goal.{Goal}
@@ -15,6 +13,8 @@ use Rattle.sai_types.specs.Alike.{IsIn}
 use Rattle.sai_types.specs.Names as name
 use Rattle.sai_types.specs.Names.{name_of}
 use Rattle.sai_types.proofs.Membership.{in-either}
+use Rattle.switch_model.specs.Placed as row
+use Rattle.switch_model.specs.Placed.{Placed as Row}
 use Rattle.switch_model.specs.Things.{hops_of, members_of}
 use Rattle.row_layout.specs.Operations.{Change, Make, Set, Take, build_all, changes_of, make_all, own_changes, retire_all, same_thing, set_all, shared_going, take_all, unshared, uses_of}
 use Rattle.row_layout.specs.Rows as owner

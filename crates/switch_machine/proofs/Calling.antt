@@ -1,12 +1,9 @@
 -- the call of a change that is due is legal, and leaves the layout of what stands then
 use Rattle.std.proofs.Common.{◌≡◌, ◌⊎◌, ◌+◌, ◌∷◌, ◌∙◌, inl, inr, ℕ, true, List, [], Option, None, Some, refl, sym, ap, ap₂, subst}
 use Rattle.swss_types.specs.declared.address.Mac.{Mac}
-use Rattle.swss_types.specs.declared.vrf.Vrf.TheVariants as vrf
 use Rattle.table_schema.specs.Plan.{Ports, IsPlan, lanes_in_plan}
 use Rattle.table_schema.specs.declared.key.Key.{Key}
 use Rattle.table_schema.specs.declared.key.Key.TheVariants as key
-use Rattle.table_schema.specs.declared.row.Row.{Row}
-use Rattle.table_schema.specs.declared.row.Row.TheVariants as row
 use Rattle.sai_types.specs.declared.ids.Rid.{Rid}
 use Rattle.sai_types.specs.declared.body.Attr.{Attr}
 use Rattle.sai_types.specs.declared.body.Attr.TheVariants as attr
@@ -24,6 +21,8 @@ use Rattle.sai_types.specs.Made.{IsWhole}
 use Rattle.sai_types.specs.Named.{first_lane}
 use Rattle.sai_types.specs.Objects.{Objects}
 use Rattle.sai_types.specs.Refusal.{IsLegal}
+use Rattle.switch_model.specs.Placed as row
+use Rattle.switch_model.specs.Placed.{Placed as Row}
 use Rattle.switch_model.specs.Things.{base_of, lane_of, members_of}
 use Rattle.chip_layout.specs.Bodies.{IsAt, IsChange, to_with, goal_name}
 use Rattle.chip_layout.specs.Layout.{Has, HasRoom, IsFree, IsLaidOut, IsUnused, Layout, has_number, listed, next_rid, with_changed, with_thing, without}
@@ -93,7 +92,7 @@ port_planned plan (key.Port q) (row.Port r) p fit h = (q, fit ∙ ap Some (sym (
 port_planned plan (key.Vlan v) row.Vlan p fit h = not_this_port p (thing.Vlan v) h (λ e. cc)
 port_planned plan (key.Vrf label) row.Vrf p fit h = not_this_port p (thing.VirtualRouter label) h (λ e. cc)
 port_planned plan (key.Member v q) (row.Member t) p fit h = absurd (none_from (lane_of plan q) (λ lane. thing.VlanMember v lane t ∷ []) (thing.Port p) (λ lane x. not_this_port p (thing.VlanMember v lane t) x (λ e. cc)) h)
-port_planned plan (key.Intf n) row.Intf p fit h = absurd (none_from (base_of plan n) (λ b. thing.Rif b vrf.Default ∷ []) (thing.Port p) (λ b x. not_this_port p (thing.Rif b vrf.Default) x (λ e. cc)) h)
+port_planned plan (key.Intf n) (row.Intf v) p fit h = absurd (none_from (base_of plan n) (λ b. thing.Rif b v ∷ []) (thing.Port p) (λ b x. not_this_port p (thing.Rif b v) x (λ e. cc)) h)
 port_planned plan (key.Neigh n ip) (row.Neigh mac) p fit h = absurd (none_from (base_of plan n) (λ b. thing.Neighbor (record { on = b; ip = ip }) mac ∷ thing.NextHop (record { on = b; ip = ip }) ∷ []) (thing.Port p) (λ b x. neither (record { on = b; ip = ip }) mac x) h)
   where
     neither : (hop : Hop) (mac : Mac) → IsIn (thing.Port p) (thing.Neighbor hop mac ∷ thing.NextHop hop ∷ []) → ⊥

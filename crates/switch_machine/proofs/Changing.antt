@@ -1,26 +1,30 @@
 -- the values of a row that changes can be set one after the other
-use Rattle.std.proofs.Common.{◌≡◌, ◌⊎◌, ◌∷◌, ◌∙◌, inl, inr, ℕ, Bool, false, List, [], Option, None, Some, option_map, refl, sym, ap, ap₂, subst}
+use Rattle.std.proofs.Common.{◌≡◌, ◌⊎◌, ◌∷◌, ◌∙◌, inl, inr, ℕ, Bool, true, false, not, if◌then◌else◌, List, [], Option, None, Some, option_map, refl, sym, ap, ap₂, subst}
+use Rattle.swss_types.specs.declared.interface.IfName.{IfName}
+use Rattle.swss_types.specs.declared.vrf.Vrf.{Vrf}
+use Rattle.swss_types.specs.Vrf.{same_vrf}
 use Rattle.table_schema.specs.Plan.{Ports, IsPlan}
 use Rattle.table_schema.specs.declared.key.Key.{Key}
 use Rattle.table_schema.specs.declared.key.Key.TheVariants as key
-use Rattle.table_schema.specs.declared.row.Row.{Row}
-use Rattle.table_schema.specs.declared.row.Row.TheVariants as row
 use Rattle.table_schema.specs.declared.row.PortRow.{PortRow}
 use Rattle.sai_types.specs.declared.thing.PortThing.{PortThing}
 use Rattle.sai_types.specs.declared.thing.Thing.{Thing}
 use Rattle.sai_types.specs.declared.thing.Thing.TheVariants as thing
 use Rattle.sai_types.specs.Alike.{IsIn}
 use Rattle.sai_types.specs.Named.{first_lane}
+use Rattle.switch_model.specs.Placed as row
+use Rattle.switch_model.specs.Placed.{Placed as Row}
 use Rattle.switch_model.specs.Things.{lane_of}
 use Rattle.sai_types.specs.Names.{ThingName, Refers, name_of}
 use Rattle.row_layout.specs.Rows.{Owner, OfRow, from, own_things}
-use Rattle.row_layout.specs.Operations.{Change, own_sets, thing_of_port, set_all, set_to}
+use Rattle.row_layout.specs.Operations.{Change, make_all, own_sets, take_all, thing_of_port, set_all, set_to}
+use Rattle.swss_types.proofs.Routers.{vrf-exact}
 use Rattle.row_layout.proofs.Changing.{set_same}
 use Rattle.switch_machine.specs.Changes.{IsSettable}
 use Rattle.switch_machine.specs.Flights.{Fits, MachineFlight, HasName, IsOwnedBy, Runs, goes_over}
 use Rattle.switch_machine.specs.Tables.{AreNamedApart, ComesBefore}
 use Rattle.switch_machine.proofs.Running.{resembles_self}
-use Rattle.switch_machine.proofs.Operating.{Ready, finish, near_own, not_first, step}
+use Rattle.switch_machine.proofs.Operating.{Ready, added, finish, near_own, not_first, step, taken}
 use Rattle.switch_machine.proofs.Ordered.{ordered}
 use Rattle.switch_machine.proofs.Tabled.{tabled}
 
@@ -108,6 +112,18 @@ module _ (plan : Ports) (is : IsPlan plan) (p : ℕ) (a r : PortRow) (leaves : O
       port_step r.speed r.mtu r.speed r.mtu a.up r.up [] W' now' (inr (inr (r.up, refl))) (λ W'' done.
       finish plan (tabled plan is) port_f port_fits (ordered plan is) refl W'' (subst (λ z. PortIsReady z W'') (sym last_own) done))))
 
+-- an interface in another router goes and is made there
+goes_or_stays : (plan : Ports) (is : IsPlan plan) (n : IfName) (v w : Vrf) (leaves : Option Owner) (b : Bool) → (b ≡ true → v ≡ w) → (V : Thing → Type 0) → Ready plan (tabled plan is) (changes (key.Intf n) (row.Intf w) leaves (not b)) (λ x h. one_row plan (key.Intf n) (row.Intf w) x tt h) (own_things plan (key.Intf n) (row.Intf v)) V → Runs plan (changes (key.Intf n) (row.Intf w) leaves (not b)) V (if b then [] else take_all (own_things plan (key.Intf n) (row.Intf v)) (make_all (own_things plan (key.Intf n) (row.Intf w)) []))
+goes_or_stays plan is n v w leaves true alike V ready =
+    let F = changes (key.Intf n) (row.Intf w) leaves false in
+    let fits : (x : Row) → F.new ≡ Some x → Fits plan (key.Intf n) x = λ x h. one_row plan (key.Intf n) (row.Intf w) x tt h in
+    finish plan (tabled plan is) F fits (ordered plan is) refl V (subst (λ z. Ready plan (tabled plan is) F fits (own_things plan (key.Intf n) (row.Intf z)) V) (alike refl) ready)
+goes_or_stays plan is n v w leaves false _ V ready =
+    let F = changes (key.Intf n) (row.Intf w) leaves true in
+    let fits : (x : Row) → F.new ≡ Some x → Fits plan (key.Intf n) x = λ x h. one_row plan (key.Intf n) (row.Intf w) x tt h in
+    taken plan (tabled plan is) F fits (ordered plan is) refl (row.Intf v) (make_all (own_things plan (key.Intf n) (row.Intf w)) []) tt refl (λ o h. elim h [ ]) V ready
+    (λ W now. added plan (tabled plan is) F fits (ordered plan is) refl (row.Intf w) refl W now)
+
 pub changed-runs : (plan : Ports) (is : IsPlan plan) (k : Key) (a r : Row) (leaves : Option Owner) (fita : Fits plan k a) (fit : Fits plan k r) (V : Thing → Type 0) → Ready plan (tabled plan is) (changes k r leaves (goes_over k (Some a) (Some r))) (λ x h. one_row plan k r x fit h) (own_things plan k a) V → Runs plan (changes k r leaves (goes_over k (Some a) (Some r))) V (own_sets plan k a r)
 changed-runs plan is (key.Port p) (row.Port a) (row.Port r) leaves fita fit V ready = port_runs plan is p a r leaves fita fit V ready
 changed-runs plan is (key.Member v p) (row.Member a) (row.Member r) leaves (lane, lane_at) fit V ready =
@@ -119,14 +135,14 @@ changed-runs plan is (key.Route v prefix) (row.Route a) (row.Route r) leaves (_,
     set_first plan is (key.Route v prefix) (row.Route a) (row.Route r) leaves (proper, (h, ah)) (thing.Route v prefix g) (thing.Route v prefix h) [] (ap (λ o. from o (λ g. thing.Route v prefix g ∷ [])) ag) (ap (λ o. from o (λ g. thing.Route v prefix g ∷ [])) ah) (h, refl) V ready
 changed-runs plan is (key.Vlan v) row.Vlan row.Vlan leaves fita fit V ready = none_set plan is (key.Vlan v) row.Vlan leaves fit V ready
 changed-runs plan is (key.Vrf label) row.Vrf row.Vrf leaves fita fit V ready = none_set plan is (key.Vrf label) row.Vrf leaves fit V ready
-changed-runs plan is (key.Intf n) row.Intf row.Intf leaves fita fit V ready = none_set plan is (key.Intf n) row.Intf leaves fit V ready
-changed-runs plan is (key.Addr n ip len) row.Addr row.Addr leaves fita fit V ready = none_set plan is (key.Addr n ip len) row.Addr leaves fit V ready
+changed-runs plan is (key.Intf n) (row.Intf v) (row.Intf w) leaves fita fit V ready = goes_or_stays plan is n v w leaves (same_vrf v w) (vrf-exact v w) V ready
+changed-runs plan is (key.Addr n ip len) (row.Addr v) (row.Addr w) leaves fita fit V ready = finish plan (tabled plan is) (changes (key.Addr n ip len) (row.Addr w) leaves false) (λ x h. one_row plan (key.Addr n ip len) (row.Addr w) x fit h) (ordered plan is) refl V ready
 changed-runs plan is (key.Port p) (row.Port a) _ leaves fita fit V ready = elim fit [ ]
 changed-runs plan is (key.Vlan v) row.Vlan _ leaves fita fit V ready = elim fit [ ]
 changed-runs plan is (key.Vrf label) row.Vrf _ leaves fita fit V ready = elim fit [ ]
 changed-runs plan is (key.Member v p) (row.Member a) _ leaves fita fit V ready = elim fit [ ]
-changed-runs plan is (key.Intf n) row.Intf _ leaves fita fit V ready = elim fit [ ]
-changed-runs plan is (key.Addr n ip len) row.Addr _ leaves fita fit V ready = elim fit [ ]
+changed-runs plan is (key.Intf n) (row.Intf v) _ leaves fita fit V ready = elim fit [ ]
+changed-runs plan is (key.Addr n ip len) (row.Addr v) _ leaves fita fit V ready = elim fit [ ]
 changed-runs plan is (key.Neigh n ip) (row.Neigh a) _ leaves fita fit V ready = elim fit [ ]
 changed-runs plan is (key.Route v prefix) (row.Route a) _ leaves fita fit V ready = elim fit [ ]
 changed-runs plan is _ _ _ leaves fita fit V ready = elim fita [ ]

@@ -7,8 +7,9 @@ use Rattle.table_schema.specs.Fields.{Pairs}
 use Rattle.table_schema.specs.Plan.{Ports}
 use Rattle.table_schema.specs.Rows.{fields_at, rows_of}
 use Rattle.table_schema.specs.declared.key.Key.{Key}
-use Rattle.table_schema.specs.declared.row.Row.{Row}
+use Rattle.table_schema.specs.declared.row.Row.{Row as BareRow}
 use Rattle.table_schema.specs.declared.write.Write.{Write}
+use Rattle.switch_model.specs.Placed.{Placed as Row}
 use Rattle.switch_model.specs.Good.{good_row, good_rows}
 use Rattle.row_layout.specs.Operations.{Change, shared_going, take_all}
 use Rattle.row_layout.specs.Rows.{Owner}
@@ -63,13 +64,13 @@ IsWrittenOnce taken k o = (n : ℕ) × (n ≤ length taken) × (o ≡ fields_at 
 written_later : (taken : List Write) (w : Write) (k : Key) (o : Option Pairs) → IsWrittenOnce taken k o → IsWrittenOnce (taken ++ w ∷ []) k o
 written_later taken w k o (n, le, h) = (n, (omega (arith, le, length-append taken (w ∷ []))), h ∙ ap (λ ts. fields_at (rows_of ts) k) (sym (take-append-le n taken (w ∷ []) le)))
 
-good_later : (plan : Ports) (taken : List Write) (w : Write) (k : Key) (r : Row) → IsGoodOnce plan taken k r → IsGoodOnce plan (taken ++ w ∷ []) k r
+good_later : (plan : Ports) (taken : List Write) (w : Write) (k : Key) (r : BareRow) → IsGoodOnce plan taken k r → IsGoodOnce plan (taken ++ w ∷ []) k r
 good_later plan taken w k r (n, le, h) = (n, (omega (arith, le, length-append taken (w ∷ []))), ap (λ ts. good_rows plan (rows_of ts) k) (take-append-le n taken (w ∷ []) le) ∙ h)
 
 pub dated-taken : (w : Write) (old new : Written) → TakesWrite w old new → HasWrittenRows old → HasWrittenRows new
 dated-taken w old new x dated k = subst (λ ts. IsWrittenOnce ts k (new.rows k)) (sym x.taken) (subst (IsWrittenOnce (old.taken ++ w ∷ []) k) (sym (x.rows k)) (written_later old.taken w k (old.rows k) (dated k)))
 
-pub good-taken : (plan : Ports) (w : Write) (old new : Written) → TakesWrite w old new → (k : Key) (r : Row) → IsGoodOnce plan old.taken k r → IsGoodOnce plan new.taken k r
+pub good-taken : (plan : Ports) (w : Write) (old new : Written) → TakesWrite w old new → (k : Key) (r : BareRow) → IsGoodOnce plan old.taken k r → IsGoodOnce plan new.taken k r
 good-taken plan w old new x k r h = subst (λ ts. IsGoodOnce plan ts k r) (sym x.taken) (good_later plan old.taken w k r h)
 
 pub dated-popped : (old new : Written) → IsTold old → ArePopped old new → HasWrittenRows old → HasWrittenRows new
@@ -80,5 +81,5 @@ dated-popped old new told x dated k = subst (λ ts. IsWrittenOnce ts k (new.rows
     by (inr popped) = (length old.taken, omega arith, popped.row ∙ sym (told k) ∙ ap (λ ts. fields_at (rows_of ts) k) (sym (take-length old.taken)))
 
 -- the good row of a key was good once
-pub good-once : (plan : Ports) (written : Written) → HasWrittenRows written → (k : Key) (r : Row) → good_of plan written k ≡ Some r → IsGoodOnce plan written.taken k r
+pub good-once : (plan : Ports) (written : Written) → HasWrittenRows written → (k : Key) (r : BareRow) → good_of plan written k ≡ Some r → IsGoodOnce plan written.taken k r
 good-once plan written dated k r h = let x = dated k in (x.0, x.1, sym (ap (good_row plan k) x.2) ∙ h)

@@ -1,9 +1,14 @@
 -- the machine stays sound where an operation ends
-use Rattle.std.proofs.Common.{◌≡◌, ◌∙◌, inl, inr, ℕ, true, [], Option, None, Some, refl, sym, ap, subst}
+use Rattle.std.proofs.Common.{◌≡◌, ◌∙◌, inl, inr, ℕ, Bool, true, false, not, [], Option, None, Some, option_map, refl, sym, ap, ap₂, subst}
 use Rattle.std.proofs.lemmas.Option.{same_Some}
+use Rattle.swss_types.specs.declared.address.Ip.{Ip}
+use Rattle.swss_types.specs.declared.interface.IfName.{IfName}
+use Rattle.swss_types.specs.declared.vrf.Vrf.{Vrf}
+use Rattle.swss_types.specs.Vrf.{same_vrf}
 use Rattle.table_schema.specs.Plan.{Ports}
 use Rattle.table_schema.specs.declared.key.Key.{Key}
-use Rattle.table_schema.specs.declared.row.Row.{Row}
+use Rattle.table_schema.specs.declared.key.Key.TheVariants as key
+use Rattle.swss_types.proofs.Routers.{vrf-exact}
 use Rattle.sai_types.specs.declared.thing.Thing.{Thing}
 use Rattle.sai_types.specs.Alike.{IsIn}
 use Rattle.sai_types.specs.Names.{ThingName, name_of}
@@ -11,6 +16,8 @@ use Rattle.row_layout.specs.Rows.{Owner, OfRow, own_things}
 use Rattle.switch_machine.specs.Flights.{MachineBoard, CountsAsUser, Fits, MachineFlight, HasName, IsFinal, IsFirm, IsOwnedBy, IsResting, IsRow, IsShared, HasChangeOf, IsUser, Machine, Runs, StandsIn, goes_over, own_names, own_of}
 use Rattle.row_layout.specs.Operations.{uses_of}
 use Rattle.switch_machine.specs.Steps.{Ends, finished}
+use Rattle.switch_model.specs.Placed as row
+use Rattle.switch_model.specs.Placed.{Placed as Row, bare}
 use Rattle.switch_model.specs.Good.{TypedRows}
 use Rattle.switch_machine.specs.Consistent.{IsCurrent, IsUsedOrRetired, IsLike, IsOrderly, IsConsistent, WasUsed}
 use Rattle.switch_machine.specs.Tables.{TableLaws}
@@ -158,12 +165,31 @@ module _ (plan : Ports) (tables : TableLaws plan) (m : Machine) (sound : IsConsi
   one_by : (u v : ℕ) (g h : MachineFlight) → b'.flights u ≡ Some g → b'.flights v ≡ Some h → g.key ≡ h.key → u ≡ v
   one_by u v g h at there same = sound.board.one u v g h (there_by u g at) (there_by v h there) same
 
+  -- an interface that addresses are on has stayed in its router
+  stays_in : (n : IfName) (ip : Ip) (len : ℕ) (v u : Vrf) (firm : Row) → IsRow b (key.Addr n ip len) (row.Addr v) → f.key ≡ key.Intf n → b.applied (key.Intf n) ≡ Some firm → Fits plan (key.Intf n) firm → f.new ≡ Some (row.Intf u) → (f.goes ≡ true → ⊥) → v ≡ u
+  stays_in n ip len v u (row.Intf x) is same at fit new stays = sound.board.inside n ip len v x is at ∙ by (same_vrf x u) refl
+    where
+      told : f.goes ≡ not (same_vrf x u)
+      told = sound.board.goes w f ends.flying ∙ ap (λ z. goes_over z (b.applied z) f.new) same ∙ ap₂ (goes_over (key.Intf n)) at new
+
+      by : (t : Bool) → same_vrf x u ≡ t → x ≡ u
+      by true e = vrf-exact x u e
+      by false e = absurd (stays (told ∙ ap not e))
+  stays_in n ip len v u _ is same at fit new stays = elim fit [ ]
+
+  inside_by : (n : IfName) (ip : Ip) (len : ℕ) (v u : Vrf) → IsRow b (key.Addr n ip len) (row.Addr v) → b'.applied (key.Intf n) ≡ Some (row.Intf u) → IsSplit f.key (key.Intf n) → v ≡ u
+  inside_by n ip len v u is at (inr other) = sound.board.inside n ip len v u is (sym (applied_old (key.Intf n) other) ∙ at)
+  inside_by n ip len v u is at (inl same) =
+      let firm = sound.board.named (key.Addr n ip len) (key.Intf n) (row.Addr v) is (inl refl) in
+      stays_in n ip len v u firm.row is same firm.applied (sound.board.fit (key.Intf n) firm.row (inl firm.applied)) (sym (applied_new (key.Intf n) same) ∙ at) (firm.stays w f ends.flying same)
+
   orderly : IsOrderly plan b'
   orderly = record {
     one = one_by;
     fit = λ k r row. sound.board.fit k r (row_was k r row);
     named = λ k p r row h. firm_now p (sound.board.named k p r (row_was k r row) h);
     goes = λ v g at. sound.board.goes v g (there_by v g at) ∙ ap (λ z. goes_over g.key z g.new) (sym (applied_old g.key (other_key v g at)));
+    inside = λ n ip len v u is at. inside_by n ip len v u (row_was (key.Addr n ip len) (row.Addr v) is) at (key_split f.key (key.Intf n));
     leaves = λ v g o at h. let x = sound.board.leaves v g o (there_by v g at) h in (was_used v g o at x.0, x.1, x.2);
     left = λ v g o at h. was_used v g o at (sound.board.left v g o (there_by v g at) h);
     unused = λ v g k o at h user. sound.board.unused v g k o (there_by v g at) h (user_was k o user);
@@ -215,13 +241,13 @@ module _ (plan : Ports) (tables : TableLaws plan) (m : Machine) (sound : IsConsi
   still_quiet o quiet v g t (Stays other there) = quiet v g there t
 
   pub current-ended : (good : TypedRows) (k : Key) → IsCurrent b good k → IsCurrent b' good k
-  current-ended good k (inl (rests, that)) = inl (rest_now k rests, applied_old k (rests w f ends.flying) ∙ that)
+  current-ended good k (inl (rests, that)) = inl (rest_now k rests, ap (option_map bare) (applied_old k (rests w f ends.flying)) ∙ that)
   current-ended good k (inr (v, g, at, is, that)) = of (goes v g at)
     where
       of : Goes v g → IsCurrent b' good k
       of (Ended same e) =
           let here : f.key ≡ k = ap (λ (z : MachineFlight). z.key) e ∙ is in
-          inl (subst (IsResting b') here rest_mine, applied_new k here ∙ ap (λ (z : MachineFlight). z.new) e ∙ that)
+          inl (subst (IsResting b') here rest_mine, ap (option_map bare) (applied_new k here ∙ ap (λ (z : MachineFlight). z.new) e) ∙ that)
       of (Stays other there) = inr (v, g, there, is, that)
 
   pub sound-ended : IsConsistent plan later

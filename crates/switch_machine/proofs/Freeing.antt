@@ -1,11 +1,18 @@
 -- a key that nothing hinders may begin, and there is room for it or a first kind lacks it
-use Rattle.std.proofs.Common.{◌≡◌, ◌⊎◌, ◌+◌, ◌<◌, ◌≤◌, ◌∷◌, ◌∙◌, inl, inr, ℕ, zero, suc, Bool, true, false, List, [], length, Option, None, Some, get_or, is_some, refl, sym, ap, ap₂, subst, arith}
+use Rattle.std.proofs.Common.{◌≡◌, ◌⊎◌, ◌+◌, ◌<◌, ◌≤◌, ◌∷◌, ◌∙◌, inl, inr, ℕ, zero, suc, Bool, true, false, List, [], length, Option, None, Some, get_or, is_some, option_map, refl, sym, ap, ap₂, subst, arith}
 use Rattle.std.proofs.lemmas.Bool.{and_parts, cases_order}
 use Rattle.std.proofs.lemmas.Option.{same_Some}
-use Rattle.table_schema.specs.Names.{names_of}
+use Rattle.swss_types.specs.declared.address.Ip.{Ip}
+use Rattle.swss_types.specs.declared.interface.IfName.{IfName}
+use Rattle.swss_types.specs.declared.vrf.Vrf.{Vrf}
+use Rattle.table_schema.specs.Names as written
+use Rattle.table_schema.specs.Names.{base_names, router_names}
+use Rattle.table_schema.specs.declared.row.Row.{Row as BareRow}
+use Rattle.table_schema.specs.declared.row.Row.TheVariants as bare_row
+use Rattle.table_schema.specs.declared.key.Key.TheVariants as key
+use Rattle.sai_types.proofs.Membership.{in-right}
 use Rattle.table_schema.specs.Plan.{IsPlan, Ports}
 use Rattle.table_schema.specs.declared.key.Key.{Key}
-use Rattle.table_schema.specs.declared.row.Row.{Row}
 use Rattle.sai_types.specs.declared.ids.Rid.{Rid}
 use Rattle.sai_types.specs.declared.kind.Kind.{Kind}
 use Rattle.sai_types.specs.declared.kind.Kind.TheVariants as kind
@@ -17,6 +24,8 @@ use Rattle.sai_types.specs.Kinds.{all_kinds}
 use Rattle.sai_types.specs.Objects.{level, used}
 use Rattle.sai_types.specs.Refusal.{capacity_of}
 use Rattle.sai_types.proofs.Levels.{level_within}
+use Rattle.switch_model.specs.Placed as row
+use Rattle.switch_model.specs.Placed.{Placed as Row, bare, bare_rows, place, placed_names as names_of, router_in, router_of_row}
 use Rattle.switch_model.specs.Desired.{have_rows}
 use Rattle.switch_model.specs.Good.{TypedRows}
 use Rattle.row_layout.specs.Operations.{Change, going, own_changes, same_thing, uses_of}
@@ -24,7 +33,7 @@ use Rattle.row_layout.specs.Rows as owner
 use Rattle.row_layout.specs.Rows.{Owner}
 use Rattle.row_layout.specs.Shared.{shared_things}
 use Rattle.switch_machine.specs.Consistent.{IsUsedOrRetired}
-use Rattle.switch_machine.specs.Events.{IsSafe, SwitchState}
+use Rattle.switch_machine.specs.Events.{IsSafe, SwitchState, placed_good}
 use Rattle.switch_machine.specs.Flights.{Fits, MachineFlight, HasChangeOf, IsFirm, IsRow, IsShared, IsUser, StandsIn, goes_over}
 use Rattle.switch_machine.specs.Operations.{MayBegin, built_first}
 use Rattle.switch_machine.specs.Places.{HasRoomFor, makes, places_kept}
@@ -32,6 +41,7 @@ use Rattle.switch_machine.specs.Reasons.{IsInTheWay, IsRowPrepared, LacksRoom}
 use Rattle.switch_machine.specs.Written.{good_of}
 use Rattle.sai_types.proofs.Equal.{thing-exact}
 use Rattle.switch_machine.proofs.Kept.{no_makes}
+use Rattle.switch_machine.proofs.Placing.{IsInRouter, held_bare, names_in, names_out, placed_row, router_row, row_of}
 use Rattle.switch_machine.proofs.Sequence.{IsShort, uses_short}
 use Rattle.switch_machine.proofs.Single.{kind_at, kind_low, kinds}
 use Rattle.switch_machine.proofs.Splits.{IsSplit, owner_split, use_row_in}
@@ -86,21 +96,24 @@ owner_in_split o os (inr (p, e)) = by (owner_split o p)
         only (inl same) = apart same
         only (inr none) = none
 
-all_have : (rows : TypedRows) (ks : List Key) (p : Key) → have_rows rows ks ≡ true → IsIn p ks → (r : Row) × (rows p ≡ Some r)
+all_have : (rows : TypedRows) (ks : List Key) (p : Key) → have_rows rows ks ≡ true → IsIn p ks → (r : BareRow) × (rows p ≡ Some r)
 all_have rows [] p h g = elim g [ ]
 all_have rows (k ∷ ks) p h (inr g) = all_have rows ks p (and_parts (is_some (rows k)) (have_rows rows ks) h).1 g
 all_have rows (k ∷ ks) p h (inl e) = by (rows k) refl (and_parts (is_some (rows k)) (have_rows rows ks) h).0
   where
-    by : (o : Option Row) → rows k ≡ o → is_some (rows k) ≡ true → (r : Row) × (rows p ≡ Some r)
+    by : (o : Option BareRow) → rows k ≡ o → is_some (rows k) ≡ true → (r : BareRow) × (rows p ≡ Some r)
     by None at t = let z = sym (ap is_some at) ∙ t in absurd cc
     by (Some r) at t = (r, ap rows e ∙ at)
 
 none_owner : {X : Type 0} (o : Owner) → None ≡ Some o → X
 none_owner o h = absurd cc
 
-module _ (plan : Ports) (is : IsPlan plan) (workers : ℕ) (capacities : List ℕ) (s : SwitchState) (kept : IsSafe plan workers capacities s) (w : ℕ) (idle : s.machine.board.flights w ≡ None) (k : Key) (prepared : IsRowPrepared plan s k) (clear : (v : ℕ) → IsInTheWay plan s.machine k (good_of plan s.written k) v → ⊥) (fits : (r : Row) → good_of plan s.written k ≡ Some r → Fits plan k r) where
+module _ (plan : Ports) (is : IsPlan plan) (workers : ℕ) (capacities : List ℕ) (s : SwitchState) (kept : IsSafe plan workers capacities s) (w : ℕ) (idle : s.machine.board.flights w ≡ None) (k : Key) (prepared : IsRowPrepared plan s k) (clear : (v : ℕ) → IsInTheWay plan s.machine k (placed_good plan s.machine.board s.written k) v → ⊥) (fits : (r : Row) → placed_good plan s.machine.board s.written k ≡ Some r → Fits plan k r) where
+  abbrev rows : TypedRows
+  rows = bare_rows s.machine.board.applied
+
   abbrev pub new : Option Row
-  new = good_of plan s.written k
+  new = placed_good plan s.machine.board s.written k
 
   abbrev pub was : List Owner
   was = uses_of plan k (s.machine.board.applied k)
@@ -199,15 +212,46 @@ module _ (plan : Ports) (is : IsPlan plan) (workers : ℕ) (capacities : List �
   due = built_first building.builds (own_changes plan k (s.machine.board.applied k) new)
 
   firm : (p : Key) (r : Row) → new ≡ Some r → IsIn p (names_of k r) → IsFirm s.machine.board p
-  firm p r e h = let x = all_have s.machine.board.applied (names_of k r) p (prepared.named r e) h in record {
+  firm p r e h = let x = there (names_out k r p h) in record {
     row = x.0;
     applied = x.1;
     stays = λ v g at same goes. clear v (g, at, inr (r, e, inl (goes, subst (λ z. IsIn z (names_of k r)) (sym same) h)));
   }
+    where
+      good : good_of plan s.written k ≡ Some (bare r)
+      good = placed_row (router_in rows k) (good_of plan s.written k) r e
+
+      have : (q : Key) → IsIn q (written.names_of k (bare r)) → (x : BareRow) × (rows q ≡ Some x)
+      have q h = all_have rows (written.names_of k (bare r)) q (prepared.named (bare r) good) h
+
+      there : IsIn p (written.names_of k (bare r)) ⊎ IsInRouter k r p → (y : Row) × (s.machine.board.applied p ≡ Some y)
+      there (inl h) = let x = have p h in let y = row_of (s.machine.board.applied p) x.0 x.1 in (y.0, y.1)
+      -- the router of an address is that of its interface's applied row, which names it
+      there (inr x) =
+          let is_router : router_in rows k ≡ x.router = router_is (good_of plan s.written k) e x.key_is x.row_is in
+          let named : IsIn p (router_names (router_of_row (rows (key.Intf x.on)))) = subst (λ v. IsIn p (router_names v)) (sym (sym (ap (router_in rows) x.key_is) ∙ is_router)) x.named in
+          let y = router_row (rows (key.Intf x.on)) p named in
+          let z = row_of (s.machine.board.applied (key.Intf x.on)) (bare_row.Intf y.0) y.1 in
+          let firm = kept.sound.board.named (key.Intf x.on) p z.0 (inl z.1) (names_in (key.Intf x.on) z.0 p (subst (λ r. IsIn p (written.names_of (key.Intf x.on) r)) (sym z.2) (in-right p (base_names x.on) (router_names y.0) y.2))) in
+          (firm.row, firm.applied)
+        where
+          router_is : (o : Option BareRow) → option_map (place (router_in rows k)) o ≡ Some r → k ≡ key.Addr x.on x.ip x.len → r ≡ row.Addr x.router → router_in rows k ≡ x.router
+          router_is None e is row_is = absurd cc
+          router_is (Some bare_row.Addr) e is row_is = let same : row.Addr (router_in rows k) ≡ row.Addr x.router = same_Some (row.Addr (router_in rows k)) r e ∙ row_is in cc
+          router_is (Some b) e is row_is = absurd cc
 
   unnamed : goes_over k (s.machine.board.applied k) new ≡ true → (q : Key) (r : Row) → IsRow s.machine.board q r → IsIn k (names_of q r) → ⊥
-  unnamed goes q r (inl at) h = prepared.unheld goes q r at h
+  unnamed goes q r (inl at) h = let x = held_bare plan s.machine.board kept.sound.board q k r at h in prepared.unheld goes x.0 x.1 x.2 x.3
   unnamed goes q r (inr (v, g, at, same, brings)) h = clear v (g, at, inl (goes, (r, brings, subst (λ z. IsIn k (names_of z r)) (sym same) h)))
+
+  -- an address is to be in the router of its interface's applied row
+  inside : (n : IfName) (ip : Ip) (len : ℕ) (v u : Vrf) → k ≡ key.Addr n ip len → new ≡ Some (row.Addr v) → s.machine.board.applied (key.Intf n) ≡ Some (row.Intf u) → v ≡ u
+  inside n ip len v u is e at = sym (of (good_of plan s.written k) e) ∙ ap (router_in rows) is ∙ ap (λ o. router_of_row (option_map bare o)) at
+    where
+      of : (o : Option BareRow) → option_map (place (router_in rows k)) o ≡ Some (row.Addr v) → router_in rows k ≡ v
+      of None e = absurd cc
+      of (Some bare_row.Addr) e = let same : row.Addr (router_in rows k) ≡ row.Addr v = same_Some (row.Addr (router_in rows k)) (row.Addr v) e in cc
+      of (Some b) e = absurd cc
 
   pub may-begin : MayBegin plan s.machine w flight due
   may-begin = record {
@@ -216,6 +260,7 @@ module _ (plan : Ports) (is : IsPlan plan) (workers : ℕ) (capacities : List �
     fit = fits;
     named = firm;
     goes = refl;
+    inside = inside;
     unnamed = unnamed;
     free = free;
     none = refl;
@@ -288,4 +333,6 @@ module _ (plan : Ports) (is : IsPlan plan) (workers : ℕ) (capacities : List �
       by : (n : Option Row) → new ≡ n → ((low : Kind) → level low < length all_kinds → IsRoomy low) ⊎ ((low : Kind) × IsFirstLacking low) → HasRoomFor workers capacities s.objects s.machine due ⊎ ((low : Kind) × LacksRoom plan workers capacities s k low)
       by n e (inl roomy) = inl (λ low some. roomy low (level_within low) some)
       by None e (inr (low, (some, many, lower))) = let none = none_made low e in absurd (omega (arith, none, some))
-      by (Some r) e (inr (low, (some, many, lower))) = inr (low, record { worker = w; flight = flight; due = due; begins = may-begin; is = refl; row = r; new = e; good = e; some = some; many = many; lower = lower })
+      by (Some r) e (inr (low, (some, many, lower))) =
+          let good = placed_row (router_in rows k) (good_of plan s.written k) r e in
+          inr (low, record { worker = w; flight = flight; due = due; begins = may-begin; is = refl; row = bare r; new = ap (option_map (place (router_in rows k))) good; good = good; some = some; many = many; lower = lower })

@@ -1,8 +1,7 @@
 -- what holds between events is kept by each of them, and the call of each is legal
-use Rattle.std.proofs.Common.{◌≡◌, ◌⊎◌, ◌+◌, ◌<◌, ◌≤◌, ◌∷◌, ◌∙◌, inl, inr, ℕ, List, [], Option, None, Some, refl, sym, ap, subst, arith}
+use Rattle.std.proofs.Common.{◌≡◌, ◌⊎◌, ◌+◌, ◌<◌, ◌≤◌, ◌∷◌, ◌∙◌, inl, inr, ℕ, List, [], Option, None, Some, option_map, refl, sym, ap, subst, arith}
 use Rattle.table_schema.specs.Plan.{Ports, IsPlan}
 use Rattle.table_schema.specs.declared.key.Key.{Key}
-use Rattle.table_schema.specs.declared.row.Row.{Row}
 use Rattle.sai_types.specs.declared.ids.Rid.{Rid}
 use Rattle.sai_types.specs.declared.kind.Kind.{Kind}
 use Rattle.sai_types.specs.declared.body.Call.{Call}
@@ -13,6 +12,7 @@ use Rattle.sai_types.specs.Made.{IsWhole, made_after}
 use Rattle.sai_types.specs.Objects.{Objects, used}
 use Rattle.sai_types.specs.Refusal.{IsLegal, capacity_of}
 use Rattle.sai_types.proofs.Whole.{whole-after_call}
+use Rattle.switch_model.specs.Placed.{Placed as Row, bare, bare_rows, router_in}
 use Rattle.switch_model.specs.Good.{TypedRows, good_row}
 use Rattle.switch_machine.specs.Written.{ArePopped, HasWrittenRows, IsAsBefore, IsGoodOnce, IsPoppedKey, IsTold, good_of}
 use Rattle.switch_machine.proofs.Dated.{dated-popped, dated-taken, follows-row, good-once, good-taken, started-row}
@@ -35,6 +35,7 @@ use Rattle.switch_machine.proofs.Leaving.{current-left, sound-left}
 use Rattle.switch_machine.proofs.Moving.{sound-moved}
 use Rattle.switch_machine.proofs.Roomy.{covered-ended, covered-left, covered-moved, covered-started, places-begun, places-kept, room-covered, room-due}
 use Rattle.switch_machine.proofs.Starting.{current-started}
+use Rattle.switch_machine.proofs.Placing.{bares, placed_row}
 use Rattle.switch_machine.proofs.Splits.{put_at, put_off}
 use Rattle.switch_machine.proofs.Tabled.{tabled}
 
@@ -58,7 +59,7 @@ moves_back m (Take n) i stands into u h = (h.0.0, into h.0.0 u (h.0.1, h.1))
 
 pub no_makes : (kind : Kind) (ts : List Thing) → makes kind (take_all ts []) ≡ 0
 no_makes kind [] = refl
-no_makes kind (t ∷ ts) = no_makes kind ts
+no_makes kind (t ∷ ts) = let rest = no_makes kind ts in omega (arith, rest)
 
 module _ (plan : Ports) (is : IsPlan plan) (workers : ℕ) (capacities : List ℕ) where
   abbrev T : TableLaws plan
@@ -104,8 +105,8 @@ module _ (plan : Ports) (is : IsPlan plan) (workers : ℕ) (capacities : List �
   same_covered : (w : ℕ) (m later : Machine) → Follows plan w m later → AreCovered m → AreCovered later
   same_covered w m _ (Due c cs at) covered = covered
   same_covered w m _ (Ended f ends) covered = covered-ended m w f ends.done covered
-  same_covered w m _ (Left f o x) covered = covered-ended (left m w f f.retires []) w (parted f f.retires) (put_at w w [] m.due refl) (covered-left m w f f.retires [] (λ kind. refl) covered)
-  same_covered w m _ (Retires f o x) covered = covered-left m w f (Some o) (take_all (shared_going o) []) (λ kind. no_makes kind (shared_going o)) covered
+  same_covered w m _ (Left f o x) covered = covered-ended (left m w f f.retires []) w (parted f f.retires) (put_at w w [] m.due refl) (covered-left m w f f.retires [] covered)
+  same_covered w m _ (Retires f o x) covered = covered-left m w f (Some o) (take_all (shared_going o) []) covered
 
   laid_as : (a b : List (Rid × Thing)) (objects : Objects) → a ≡ b → IsLaidOut (listed a) objects → IsLaidOut (listed b) objects
   laid_as a b objects e h = subst (λ z. IsLaidOut (listed z) objects) e h
@@ -121,12 +122,12 @@ module _ (plan : Ports) (is : IsPlan plan) (workers : ℕ) (capacities : List �
     told = subst IsTold (sym x.written) kept.told;
     covered = same_covered x.worker first t.machine x.follows (covered-started s.machine x.worker x.flight x.due kept.covered);
     dated = subst HasWrittenRows (sym x.written) kept.dated;
-    good = λ k r h. subst (λ z. IsGoodOnce plan z.taken k r) (sym x.written) (good k r (started-row s.machine x.worker x.flight x.due k r (follows-row plan x.worker first t.machine k r x.follows h)));
+    good = λ k r h. subst (λ z. IsGoodOnce plan z.taken k (bare r)) (sym x.written) (good k r (started-row s.machine x.worker x.flight x.due k r (follows-row plan x.worker first t.machine k r x.follows h)));
   }
     where
-      good : (k : Key) (r : Row) → IsRow s.machine.board k r ⊎ ((x.flight.key ≡ k) × (x.flight.new ≡ Some r)) → IsGoodOnce plan s.written.taken k r
+      good : (k : Key) (r : Row) → IsRow s.machine.board k r ⊎ ((x.flight.key ≡ k) × (x.flight.new ≡ Some r)) → IsGoodOnce plan s.written.taken k (bare r)
       good k r (inl h) = kept.good k r h
-      good k r (inr (same, new)) = good-once plan s.written kept.dated k r (ap (good_of plan s.written) (sym same) ∙ sym x.new ∙ new)
+      good k r (inr (same, new)) = good-once plan s.written kept.dated k (bare r) (ap (good_of plan s.written) (sym same) ∙ placed_row (router_in (bare_rows s.machine.board.applied) x.flight.key) (good_of plan s.written x.flight.key) r (sym x.new ∙ new))
 
       first : Machine
       first = started s.machine x.worker x.flight x.due
@@ -135,13 +136,13 @@ module _ (plan : Ports) (is : IsPlan plan) (workers : ℕ) (capacities : List �
       begun = sound-begun plan is s.machine kept.sound x.worker x.flight x.due x.begins
 
       places : HasPlaces workers capacities s.objects (started s.machine x.worker x.flight x.due)
-      places = places-begun workers capacities 0 s.objects s.machine (started s.machine x.worker x.flight x.due) x.worker x.below (λ v other. put_off x.worker v x.due s.machine.due other) x.due kept.places (put_at x.worker x.worker x.due s.machine.due refl) (room-covered workers capacities s.objects s.machine x.due kept.covered x.room)
+      places = places-begun workers capacities 0 s.objects s.machine (started s.machine x.worker x.flight x.due) x.worker x.below (λ v other. put_off x.worker v x.due s.machine.due other) x.due kept.places (put_at x.worker x.worker x.due s.machine.due refl) (room-covered workers capacities s.objects s.machine x.due x.room)
 
       current : (k : Key) → IsCurrent s.machine.board (good_of plan s.written) k ⊎ (k ≡ x.flight.key) → IsCurrent t.machine.board (good_of plan t.written) k
       current k h =
           subst (λ z. IsCurrent t.machine.board (good_of plan z) k) (sym x.written)
           (same_current x.worker (started s.machine x.worker x.flight x.due) t.machine (good_of plan s.written) k (sound-begun plan is s.machine kept.sound x.worker x.flight x.due x.begins) x.follows
-          (current-started plan T s.machine kept.sound x.worker x.flight x.due (starts plan is s.machine kept.sound x.worker x.flight x.due x.begins) (good_of plan s.written) k x.new h))
+          (current-started plan T s.machine kept.sound x.worker x.flight x.due (starts plan is s.machine kept.sound x.worker x.flight x.due x.begins) (good_of plan s.written) k (ap (option_map bare) x.new ∙ bares (router_in (bare_rows s.machine.board.applied) x.flight.key) (good_of plan s.written x.flight.key)) h))
 
       queued : (k : Key) → (k ≡ x.flight.key) ⊎ IsIn k t.to_sync → IsIn k t.to_sync ⊎ IsCurrent t.machine.board (good_of plan t.written) k
       queued k (inl same) = inr (current k (inr same))
@@ -162,7 +163,7 @@ module _ (plan : Ports) (is : IsPlan plan) (workers : ℕ) (capacities : List �
     told = λ k. told-taken x.write s.written t.written x.taken kept.told k;
     covered = subst AreCovered (sym x.machine) kept.covered;
     dated = dated-taken x.write s.written t.written x.taken kept.dated;
-    good = λ k r h. good-taken plan x.write s.written t.written x.taken k r (kept.good k r (subst (λ z. IsRow z.board k r) x.machine h));
+    good = λ k r h. good-taken plan x.write s.written t.written x.taken k (bare r) (kept.good k r (subst (λ z. IsRow z.board k r) x.machine h));
   }
     where
       now : (k : Key) → IsCurrent s.machine.board (good_of plan s.written) k → IsCurrent s.machine.board (good_of plan t.written) k
@@ -184,7 +185,7 @@ module _ (plan : Ports) (is : IsPlan plan) (workers : ℕ) (capacities : List �
     told = told-popped s.written t.written popped kept.told;
     covered = subst AreCovered (sym x.machine) kept.covered;
     dated = dated-popped s.written t.written kept.told popped kept.dated;
-    good = λ k r h. subst (λ ts. IsGoodOnce plan ts k r) (sym x.taken) (kept.good k r (subst (λ z. IsRow z.board k r) x.machine h));
+    good = λ k r h. subst (λ ts. IsGoodOnce plan ts k (bare r)) (sym x.taken) (kept.good k r (subst (λ z. IsRow z.board k r) x.machine h));
   }
     where
       keys : (k : Key) → PopsKey s t k → IsAsBefore s.written t.written k ⊎ IsPoppedKey s.written t.written k
@@ -214,7 +215,7 @@ module _ (plan : Ports) (is : IsPlan plan) (workers : ℕ) (capacities : List �
     told = subst IsTold (sym x.written) kept.told;
     covered = subst AreCovered (sym x.machine) kept.covered;
     dated = subst HasWrittenRows (sym x.written) kept.dated;
-    good = λ k r h. subst (λ z. IsGoodOnce plan z.taken k r) (sym x.written) (kept.good k r (subst (λ z. IsRow z.board k r) x.machine h));
+    good = λ k r h. subst (λ z. IsGoodOnce plan z.taken k (bare r)) (sym x.written) (kept.good k r (subst (λ z. IsRow z.board k r) x.machine h));
   }
     where
       now : (k : Key) → IsCurrent s.machine.board (good_of plan s.written) k → IsCurrent t.machine.board (good_of plan t.written) k
@@ -274,7 +275,7 @@ module _ (plan : Ports) (is : IsPlan plan) (workers : ℕ) (capacities : List �
     sound_first = called-sound s kept call x.next x.id x.given x.stands x.into x.back
 
     places_first : HasPlaces workers capacities (after_call (s.made + 1) s.objects call) first
-    places_first = places-kept workers capacities s.made s.objects s.machine first x.next.worker x.next.below (λ v other. put_off x.next.worker v x.next.rest s.machine.due other) (listed s.machine.stands) x.next.change x.next.rest call kept.whole.sorted kept.places x.next.due (put_at x.next.worker x.next.worker x.next.rest s.machine.due refl) x.next.of
+    places_first = places-kept workers capacities s.made s.objects s.machine first x.next.worker x.next.below (λ v other. put_off x.next.worker v x.next.rest s.machine.due other) (listed s.machine.stands) kept.laid x.next.change x.next.rest call kept.whole.sorted kept.places x.next.due (put_at x.next.worker x.next.worker x.next.rest s.machine.due refl) x.next.of
 
     pub kept-answers : IsSafe plan workers capacities t
     kept-answers = record {
@@ -286,7 +287,7 @@ module _ (plan : Ports) (is : IsPlan plan) (workers : ℕ) (capacities : List �
       told = subst IsTold (sym x.written) kept.told;
       covered = same_covered x.next.worker first t.machine x.follows (covered-moved s.machine x.next.worker x.next.change x.next.rest x.stands x.next.due kept.covered);
       dated = subst HasWrittenRows (sym x.written) kept.dated;
-      good = λ k r h. subst (λ z. IsGoodOnce plan z.taken k r) (sym x.written) (kept.good k r (follows-row plan x.next.worker first t.machine k r x.follows h));
+      good = λ k r h. subst (λ z. IsGoodOnce plan z.taken k (bare r)) (sym x.written) (kept.good k r (follows-row plan x.next.worker first t.machine k r x.follows h));
     }
       where
         synced : (k : Key) → IsIn k s.to_sync ⊎ IsCurrent s.machine.board (good_of plan s.written) k → IsIn k t.to_sync ⊎ IsCurrent t.machine.board (good_of plan t.written) k

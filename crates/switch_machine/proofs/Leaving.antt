@@ -1,9 +1,9 @@
 -- the machine stays sound where a key leaves what it shared
-use Rattle.std.proofs.Common.{◌≡◌, ◌⊎◌, ◌∷◌, ◌∙◌, inl, inr, ℕ, List, [], Option, None, Some, refl, sym, ap, subst, true}
+use Rattle.std.proofs.Common.{◌≡◌, ◌⊎◌, ◌∷◌, ◌∙◌, inl, inr, ℕ, List, [], Option, None, Some, option_map, refl, sym, ap, subst, true}
 use Rattle.std.proofs.lemmas.Option.{none-some, same_Some}
 use Rattle.table_schema.specs.Plan.{Ports}
 use Rattle.table_schema.specs.declared.key.Key.{Key}
-use Rattle.table_schema.specs.declared.row.Row.{Row}
+use Rattle.table_schema.specs.declared.key.Key.TheVariants as key
 use Rattle.sai_types.specs.declared.thing.Thing.{Thing}
 use Rattle.sai_types.specs.Alike.{IsIn}
 use Rattle.sai_types.specs.Names.{ThingName, Refers, name_of}
@@ -12,6 +12,8 @@ use Rattle.row_layout.specs.Shared.{uses}
 use Rattle.row_layout.specs.Operations.{Change, uses_of}
 use Rattle.switch_machine.specs.Flights.{MachineBoard, CountsAsUser, Fits, MachineFlight, IsFirm, IsOwnedBy, IsResting, IsRow, IsShared, HasChangeOf, IsUser, Machine, Runs, StandsIn, goes_over}
 use Rattle.switch_machine.specs.Steps.{Leaves, LeavesLast, LeavesOthers, left, parted}
+use Rattle.switch_model.specs.Placed as row
+use Rattle.switch_model.specs.Placed.{Placed as Row, bare}
 use Rattle.switch_model.specs.Good.{TypedRows}
 use Rattle.switch_machine.specs.Consistent.{IsCurrent, IsUsedOrRetired, IsOrderly, IsConsistent, WasUsed}
 use Rattle.switch_machine.specs.Tables.{IsNamed, TableLaws}
@@ -151,7 +153,7 @@ module _ (plan : Ports) (tables : TableLaws plan) (m : Machine) (sound : IsConsi
     current-left good k (inr (v, g, at, is, that)) = of (flew v g at)
       where
         of : Flew v g → IsCurrent b' good k
-        of (It same e) = inr (w, g', here, ap (λ (z : MachineFlight). z.key) e ∙ is, ap (λ (z : MachineFlight). z.new) e ∙ that)
+        of (It same e) = inr (w, g', here, ap (λ (z : MachineFlight). z.key) e ∙ is, ap (λ (z : MachineFlight). option_map bare z.new) e ∙ that)
         of (Same other there) = inr (v, g, there, is, that)
 
     -- the key itself uses only what its new row shares
@@ -202,6 +204,7 @@ module _ (plan : Ports) (tables : TableLaws plan) (m : Machine) (sound : IsConsi
         fit = λ k r row. sound.board.fit k r (row_was k r row);
         named = λ k p r row h. firm_now p (sound.board.named k p r (row_was k r row) h);
         goes = λ v g at. goes_by v g (flies v g at);
+        inside = λ n ip len v u is at. sound.board.inside n ip len v u (row_was (key.Addr n ip len) (row.Addr v) is) at;
         leaves = λ v g p at h. leaves_by v g p h (flies v g at);
         left = λ v g p at h. left_by v g p h (flies v g at);
         unused = λ v g k p at h user. unused_by v g k p h user (flies v g at);

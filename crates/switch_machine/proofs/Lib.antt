@@ -10,6 +10,7 @@ pub mod Calling
 pub mod Resting
 pub mod Operating
 pub mod Ordered
+pub mod Placing
 pub mod Changing
 pub mod Beginning
 pub mod Roomy

@@ -9,8 +9,6 @@ use Rattle.swss_types.specs.declared.tagging.Tagging.TheVariants.{Tagged}
 use Rattle.table_schema.specs.Plan.{Ports, port_named}
 use Rattle.table_schema.specs.declared.key.Key.{Key}
 use Rattle.table_schema.specs.declared.key.Key.TheVariants as key
-use Rattle.table_schema.specs.declared.row.Row.{Row}
-use Rattle.table_schema.specs.declared.row.Row.TheVariants as row
 use Rattle.table_schema.specs.declared.write.Write.TheVariants as write
 use Rattle.sai_types.specs.declared.ids.Rid.{Rid}
 use Rattle.sai_types.specs.declared.body.Body.TheVariants as body
@@ -27,6 +25,8 @@ use Rattle.sai_types.specs.After.{after_call}
 use Rattle.sai_types.specs.Alike.{IsIn}
 use Rattle.sai_types.specs.Objects.{used}
 use Rattle.chip_layout.specs.Layout.{IsLaidOut, listed}
+use Rattle.switch_model.specs.Placed as row
+use Rattle.switch_model.specs.Placed.{Placed as Row}
 use Rattle.row_layout.specs.Operations.{Change, Make}
 use Rattle.row_layout.specs.Rows as owner
 use Rattle.switch_machine.specs.Consistent.{IsConsistent, IsCurrent, IsOrderly}
@@ -53,7 +53,7 @@ abbrev one_ip : Ip
 one_ip = record { family = V4; bits = 167772161 }
 
 abbrev shared_address : Key → Option Row
-shared_address (key.Addr (on.Vlan v) ip len) = Some row.Addr
+shared_address (key.Addr (on.Vlan v) ip len) = Some (row.Addr vrf.Default)
 shared_address _ = None
 
 abbrev retiring_address : MachineBoard

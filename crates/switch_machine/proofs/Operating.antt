@@ -1,10 +1,10 @@
 -- the changes of an operation can be made one after the other
 use Rattle.std.proofs.Common.{Bool, true, false, if◌then◌else◌, ◌≡◌, ◌⊎◌, ◌∷◌, ◌∙◌, inl, inr, List, [], None, Some, refl, sym, ap, subst}
 use Rattle.table_schema.specs.Plan.{Ports}
-use Rattle.table_schema.specs.declared.row.Row.{Row}
 use Rattle.sai_types.specs.declared.thing.Thing.{Thing}
 use Rattle.sai_types.specs.Alike.{IsIn}
 use Rattle.sai_types.specs.Names.{ThingName, Refers, name_of}
+use Rattle.switch_model.specs.Placed.{Placed as Row}
 use Rattle.row_layout.specs.Rows.{Owner, OfRow, own_things}
 use Rattle.row_layout.specs.Shared.{shared_things, uses}
 use Rattle.row_layout.specs.Operations.{Change, Set, going, make_all, same_thing, set_to, take_all, uses_of}

@@ -12,12 +12,12 @@ use Rattle.swss_types.specs.declared.interface.IfName.TheVariants as on
 use Rattle.swss_types.specs.declared.vrf.Vrf.{Vrf}
 use Rattle.swss_types.specs.declared.vrf.Vrf.TheVariants as vrf
 use Rattle.swss_types.proofs.Tied.{tied}
-use Rattle.table_schema.specs.Names.{names_of, names_of_route, router_names}
+use Rattle.swss_types.specs.declared.interface.IfName.{IfName}
+use Rattle.swss_types.specs.declared.vrf.VrfName.{VrfName}
+use Rattle.table_schema.specs.Names.{base_names, router_names}
 use Rattle.table_schema.specs.Plan.{Ports, IsPlan}
 use Rattle.table_schema.specs.declared.key.Key.{Key}
 use Rattle.table_schema.specs.declared.key.Key.TheVariants as key
-use Rattle.table_schema.specs.declared.row.Row.{Row}
-use Rattle.table_schema.specs.declared.row.Row.TheVariants as row
 use Rattle.table_schema.specs.declared.row.RouteRow.TheVariants as route
 use Rattle.table_schema.specs.declared.row_hop.RowHop.{RowHop}
 use Rattle.sai_types.specs.declared.hop.Base.{Base}
@@ -26,6 +26,8 @@ use Rattle.sai_types.specs.declared.thing.Thing.{Thing}
 use Rattle.sai_types.specs.declared.thing.Thing.TheVariants as thing
 use Rattle.sai_types.specs.Alike.{IsIn}
 use Rattle.sai_types.specs.Hop.{AreRisingHops, by_hop, put_hop}
+use Rattle.switch_model.specs.Placed as row
+use Rattle.switch_model.specs.Placed.{Placed as Row, placed_addr_names as names_of_addr, placed_intf_names as names_of_intf, placed_names as names_of, placed_route_names as names_of_route}
 use Rattle.switch_model.specs.Things.{base_of, hops_of, lane_of, members_of, whop_of}
 use Rattle.sai_types.specs.Names as name
 use Rattle.sai_types.specs.Names.{ThingName, Refers, name_of}
@@ -60,7 +62,7 @@ group_rising plan (key.Route v prefix) (row.Route (route.Hops rows)) o hops h e 
 group_rising plan (key.Route v prefix) (row.Route route.Drop) o hops h e = elim h [ ]
 group_rising plan (key.Route v prefix) (row.Route (route.Direct i)) o hops h e = elim h [ ]
 group_rising plan (key.Member v p) (row.Member t) o hops h e = absurd (only (λ o. o ≡ owner.Group hops → ⊥) o _ (λ z. cc) (from_in (lane_of plan p) (λ lane. owner.Bridge lane ∷ []) o h).2 e)
-group_rising plan (key.Addr i ip len) row.Addr o hops h e = let z = sym (address_use plan i ip o h) ∙ e in absurd cc
+group_rising plan (key.Addr i ip len) (row.Addr v) o hops h e = let z = sym (address_use plan i v ip o h) ∙ e in absurd cc
 group_rising plan _ _ o hops h e = elim h [ ]
 
 -- ---- a row doesn't name itself
@@ -70,35 +72,66 @@ hop_keys [] p v prefix h e = elim h [ ]
 hop_keys (x ∷ xs) p v prefix (inl is) e = let z = sym is ∙ e in cc
 hop_keys (x ∷ xs) p v prefix (inr h) e = hop_keys xs p v prefix h e
 
-router_keys : (v : Vrf) (p : Key) (prefix : Prefix) → IsIn p (router_names v) → p ≡ key.Route v prefix → ⊥
-router_keys vrf.Default p prefix h e = elim h [ ]
-router_keys (vrf.Named label) p prefix (inl is) e = let z = sym is ∙ e in cc
-router_keys (vrf.Named label) p prefix (inr h) e = elim h [ ]
+-- the key of a virtual router
+abbrev IsRouterKey : Key → Type 0
+IsRouterKey p = (n : VrfName) × (p ≡ key.Vrf n)
 
-target_keys : (r : Row) (p : Key) (v : Vrf) (prefix : Prefix) → IsIn p (names_of_route r) → p ≡ key.Route v prefix → ⊥
-target_keys (row.Route (route.Direct n)) p v prefix (inl is) e = let z = sym is ∙ e in cc
-target_keys (row.Route (route.Direct n)) p v prefix (inr h) e = elim h [ ]
-target_keys (row.Route (route.Hops hops)) p v prefix h e = hop_keys hops p v prefix h e
-target_keys _ p v prefix h e = elim h [ ]
+router_key : (v : Vrf) (p : Key) → IsIn p (router_names v) → IsRouterKey p
+router_key vrf.Default p h = elim h [ ]
+router_key (vrf.Named n) p (inl is) = (n, is)
+router_key (vrf.Named n) p (inr h) = elim h [ ]
 
-route_keys : (r : Row) (p : Key) (v : Vrf) (prefix : Prefix) → IsIn p (router_names v) ⊎ IsIn p (names_of_route r) → p ≡ key.Route v prefix → ⊥
-route_keys r p v prefix (inl h) e = router_keys v p prefix h e
-route_keys r p v prefix (inr h) e = target_keys r p v prefix h e
+intf_keys : (i : IfName) (p : Key) (r : Row) → IsIn p (names_of_intf i r) → IsIn p (base_names i) ⊎ IsRouterKey p
+intf_keys i p (row.Intf v) h = or_router (in-either p (base_names i) (router_names v) h)
+  where
+    or_router : IsIn p (base_names i) ⊎ IsIn p (router_names v) → IsIn p (base_names i) ⊎ IsRouterKey p
+    or_router (inl h) = inl h
+    or_router (inr h) = inr (router_key v p h)
+intf_keys i p _ h = inl h
+
+addr_keys : (i : IfName) (p : Key) (r : Row) → IsIn p (names_of_addr i r) → (p ≡ key.Intf i) ⊎ IsRouterKey p
+addr_keys i p (row.Addr v) h = by h
+  where
+    by : (p ≡ key.Intf i) ⊎ IsIn p (router_names v) → (p ≡ key.Intf i) ⊎ IsRouterKey p
+    by (inl is) = inl is
+    by (inr g) = inr (router_key v p g)
+addr_keys i p _ h = alone h
+  where
+    alone : IsIn p (key.Intf i ∷ []) → (p ≡ key.Intf i) ⊎ IsRouterKey p
+    alone (inl is) = inl is
+    alone (inr g) = elim g [ ]
+
+intf_not : (i : IfName) (p : Key) → IsIn p (base_names i) ⊎ IsRouterKey p → p ≡ key.Intf i → ⊥
+intf_not (on.Ethernet q) p (inl (inl is)) e = let z = sym is ∙ e in cc
+intf_not (on.Ethernet q) p (inl (inr h)) e = elim h [ ]
+intf_not (on.Vlan v) p (inl (inl is)) e = let z = sym is ∙ e in cc
+intf_not (on.Vlan v) p (inl (inr h)) e = elim h [ ]
+intf_not (on.Loopback l) p (inl h) e = elim h [ ]
+intf_not i p (inr x) e = let z = sym x.1 ∙ e in cc
+
+addr_not : (i : IfName) (ip : Ip) (len : ℕ) (p : Key) → (p ≡ key.Intf i) ⊎ IsRouterKey p → p ≡ key.Addr i ip len → ⊥
+addr_not i ip len p (inl is) e = let z = sym is ∙ e in cc
+addr_not i ip len p (inr x) e = let z = sym x.1 ∙ e in cc
+
+target_not : (v : Vrf) (prefix : Prefix) (p : Key) (r : Row) → IsIn p (names_of_route r) → p ≡ key.Route v prefix → ⊥
+target_not v prefix p (row.Route (route.Direct n)) (inl is) e = let z = sym is ∙ e in cc
+target_not v prefix p (row.Route (route.Direct n)) (inr h) e = elim h [ ]
+target_not v prefix p (row.Route (route.Hops hops)) h e = hop_keys hops p v prefix h e
+target_not v prefix p _ h e = elim h [ ]
+
+route_not : (v : Vrf) (prefix : Prefix) (p : Key) (r : Row) → IsIn p (router_names v) ⊎ IsIn p (names_of_route r) → p ≡ key.Route v prefix → ⊥
+route_not v prefix p r (inl h) e = let x = router_key v p h in let z = sym x.1 ∙ e in cc
+route_not v prefix p r (inr h) e = target_not v prefix p r h e
 
 pub no_self_by : (k p : Key) (r : Row) → IsIn p (names_of k r) → p ≡ k → ⊥
 no_self_by (key.Member v q) p r (inl is) e = let z = sym is ∙ e in cc
 no_self_by (key.Member v q) p r (inr (inl is)) e = let z = sym is ∙ e in cc
-no_self_by (key.Intf (on.Ethernet q)) p r (inl is) e = let z = sym is ∙ e in cc
-no_self_by (key.Intf (on.Vlan v)) p r (inl is) e = let z = sym is ∙ e in cc
-no_self_by (key.Intf (on.Loopback l)) p r h e = elim h [ ]
-no_self_by (key.Addr n ip len) p r (inl is) e = let z = sym is ∙ e in cc
-no_self_by (key.Neigh n ip) p r (inl is) e = let z = sym is ∙ e in cc
-no_self_by (key.Route v prefix) p r h e = route_keys r p v prefix (in-either p (router_names v) (names_of_route r) h) e
 no_self_by (key.Member v q) p r (inr (inr h)) e = elim h [ ]
-no_self_by (key.Intf (on.Ethernet q)) p r (inr h) e = elim h [ ]
-no_self_by (key.Intf (on.Vlan v)) p r (inr h) e = elim h [ ]
-no_self_by (key.Addr n ip len) p r (inr h) e = elim h [ ]
+no_self_by (key.Intf i) p r h e = intf_not i p (intf_keys i p r h) e
+no_self_by (key.Addr n ip len) p r h e = addr_not n ip len p (addr_keys n p r h) e
+no_self_by (key.Neigh n ip) p r (inl is) e = let z = sym is ∙ e in cc
 no_self_by (key.Neigh n ip) p r (inr h) e = elim h [ ]
+no_self_by (key.Route v prefix) p r h e = route_not v prefix p r (in-either p (router_names v) (names_of_route r) h) e
 no_self_by _ p _ h e = elim h [ ]
 
 -- ---- a row shares one thing at most
@@ -111,7 +144,7 @@ from_one (Some x) g o p (inl h) (inr k) = elim k [ ]
 
 one_use_by : (plan : Ports) (k : Key) (r : Row) (o p : Owner) → IsIn o (uses plan k r) → IsIn p (uses plan k r) → o ≡ p
 one_use_by plan (key.Member v q) (row.Member t) o p h g = from_one (lane_of plan q) owner.Bridge o p h g
-one_use_by plan (key.Addr n ip len) row.Addr o p h g = address_use plan n ip o h ∙ sym (address_use plan n ip p g)
+one_use_by plan (key.Addr n ip len) (row.Addr v) o p h g = address_use plan n v ip o h ∙ sym (address_use plan n v ip p g)
 one_use_by plan (key.Route v prefix) (row.Route (route.Hops hops)) o p h g =
     let x = group_use o (hops_of plan hops) h in
     let y = group_use p (hops_of plan hops) g in
@@ -137,7 +170,7 @@ own_apart_by plan (key.Port p) (row.Port r) = things_apart_from (lane_of plan p)
 own_apart_by plan (key.Vlan v) row.Vlan = one_apart (thing.Vlan v)
 own_apart_by plan (key.Vrf label) row.Vrf = one_apart (thing.VirtualRouter label)
 own_apart_by plan (key.Member v p) (row.Member t) = things_apart_from (lane_of plan p) _ (λ lane. one_apart (thing.VlanMember v lane t))
-own_apart_by plan (key.Intf n) row.Intf = things_apart_from (base_of plan n) _ (λ b. one_apart (thing.Rif b vrf.Default))
+own_apart_by plan (key.Intf n) (row.Intf v) = things_apart_from (base_of plan n) _ (λ b. one_apart (thing.Rif b v))
 own_apart_by plan (key.Neigh n ip) (row.Neigh mac) = things_apart_from (base_of plan n) _ (λ b. two_apart (thing.Neighbor (record { on = b; ip = ip }) mac) (thing.NextHop (record { on = b; ip = ip })) (λ e. cc))
 own_apart_by plan (key.Route v prefix) (row.Route r) = things_apart_from (goal_of plan r) _ (λ g. one_apart (thing.Route v prefix g))
 own_apart_by plan _ _ = tt
@@ -148,7 +181,7 @@ going_apart_by plan (key.Port p) (row.Port r) = own_apart_by plan (key.Port p) (
 going_apart_by plan (key.Vlan v) row.Vlan = one_apart (thing.Vlan v)
 going_apart_by plan (key.Vrf label) row.Vrf = one_apart (thing.VirtualRouter label)
 going_apart_by plan (key.Member v p) (row.Member t) = own_apart_by plan (key.Member v p) (row.Member t)
-going_apart_by plan (key.Intf n) row.Intf = own_apart_by plan (key.Intf n) row.Intf
+going_apart_by plan (key.Intf n) (row.Intf v) = own_apart_by plan (key.Intf n) (row.Intf v)
 going_apart_by plan (key.Route v prefix) (row.Route r) = own_apart_by plan (key.Route v prefix) (row.Route r)
 going_apart_by plan _ _ = tt
 
@@ -199,7 +232,7 @@ going_by plan (key.Vlan v) row.Vlan u t h g (inr x) = elim x [ ]
 going_by plan (key.Vrf label) row.Vrf u t h g (inl x) = elim x.1 [ ]
 going_by plan (key.Vrf label) row.Vrf u t h g (inr x) = elim x [ ]
 going_by plan (key.Member v p) (row.Member x) u t h g before = absurd (one_from (lane_of plan p) (λ lane. thing.VlanMember v lane x) (name_of t) u t before)
-going_by plan (key.Intf n) row.Intf u t h g before = absurd (one_from (base_of plan n) (λ b. thing.Rif b vrf.Default) (name_of t) u t before)
+going_by plan (key.Intf n) (row.Intf v) u t h g before = absurd (one_from (base_of plan n) (λ b. thing.Rif b v) (name_of t) u t before)
 going_by plan (key.Neigh n ip) (row.Neigh mac) u t h g before = neigh_before (base_of plan n) ip mac u t h g before
 going_by plan (key.Route v prefix) (row.Route r) u t h g before = absurd (one_from (goal_of plan r) (thing.Route v prefix) (name_of t) u t before)
 going_by plan _ _ u t h g before = elim h [ ]

@@ -1,9 +1,20 @@
 -- without operations a kind has no room for a row exactly where the applied things and the row's are too many
-use Rattle.std.proofs.Common.{◌≡◌, ◌==◌, ◌⊎◌, ◌+◌, ◌<◌, ◌≤◌, ◌∷◌, ◌++◌, ◌∙◌, inl, inr, ℕ, suc, Bool, true, false, cond, List, [], length, None, Some, refl, sym, ap, subst, arith}
+use Rattle.std.proofs.Common.{◌≡◌, ◌==◌, ◌⊎◌, ◌+◌, ◌<◌, ◌≤◌, ◌∷◌, ◌++◌, ◌∙◌, inl, inr, ℕ, suc, Bool, true, false, not, cond, if◌then◌else◌, List, [], length, Option, None, Some, refl, sym, ap, ap₂, subst, arith}
 use Rattle.std.proofs.lemmas.Bool.{eq-eqb, eqb-true, false≢true}
 use Rattle.std.proofs.lemmas.Option.{none-some}
+use Rattle.swss_types.specs.declared.interface.IfName.{IfName}
+use Rattle.swss_types.specs.declared.vrf.Vrf.{Vrf}
+use Rattle.swss_types.specs.Vrf.{same_vrf}
 use Rattle.table_schema.specs.Plan.{Ports, IsPlan}
-use Rattle.table_schema.specs.declared.row.Row.{Row}
+use Rattle.table_schema.specs.declared.row.Row.{Row as BareRow}
+use Rattle.table_schema.specs.declared.key.Key.TheVariants as key
+use Rattle.switch_model.specs.Placed as placed
+use Rattle.switch_model.specs.Placed.{Placed as Row, bare_rows, place, router_in}
+use Rattle.switch_model.specs.Good.{TypedRows}
+use Rattle.table_schema.specs.declared.key.Key.{Key}
+use Rattle.sai_types.specs.declared.hop.Base.{Base}
+use Rattle.sai_types.specs.declared.thing.Thing.TheVariants as thing
+use Rattle.sai_types.specs.Names as name
 use Rattle.sai_types.specs.declared.kind.Kind.{Kind}
 use Rattle.sai_types.specs.declared.thing.Thing.{Thing}
 use Rattle.sai_types.specs.Alike.{IsIn}
@@ -13,24 +24,25 @@ use Rattle.sai_types.specs.Refusal.{capacity_of}
 use Rattle.switch_model.specs.Desired.{IsThingOf}
 use Rattle.switch_model.specs.Marks as marks
 use Rattle.switch_model.specs.Marks.{Overflows}
-use Rattle.switch_model.specs.Things.{things_of}
+use Rattle.switch_model.specs.Things.{base_of, things_of}
 use Rattle.chip_layout.specs.Counted.{AreAll, AreDistinct}
 use Rattle.chip_layout.specs.Layout.{IsLaidOut, listed}
 use Rattle.sai_types.specs.Names.{ThingName, name_kind, name_of}
 use Rattle.sai_types.proofs.Membership.{in-either}
 use Rattle.chip_layout.proofs.Counting.{counted, no-longer}
-use Rattle.row_layout.specs.Rows.{own_things}
+use Rattle.row_layout.specs.Rows.{Owner, from, own_things}
 use Rattle.row_layout.specs.Shared.{IsOf, uses}
 use Rattle.row_layout.proofs.Split.{things-split}
-use Rattle.row_layout.specs.Operations.{Change, Make, Set, Take, uses_of}
+use Rattle.row_layout.specs.Operations.{Change, Make, Set, Take, make_all, own_changes, take_all, uses_of}
 use Rattle.switch_machine.specs.Changes.{after}
 use Rattle.switch_machine.specs.Flights.{CanMake, CanSet, MachineFlight, Goes, HasName, IsConcern, IsFinal, Machine, Runs, StandsIn, goes_over, own_of}
-use Rattle.switch_machine.specs.Operations.{MayBegin}
+use Rattle.switch_machine.specs.Operations.{MayBegin, built_first}
 use Rattle.switch_machine.specs.Places.{makes}
 use Rattle.switch_machine.specs.Consistent.{IsConsistent}
 use Rattle.switch_machine.specs.Tables.{TableLaws}
 use Rattle.switch_machine.proofs.Beginning.{starts}
 use Rattle.switch_machine.proofs.Calling.{sort_of}
+use Rattle.switch_machine.proofs.Placing.{row_of_thing}
 use Rattle.switch_machine.proofs.Resting.{back_by, into_by}
 use Rattle.switch_machine.proofs.Running.{final-concern, settable_name}
 use Rattle.switch_machine.proofs.Splits.{IsSplit, name_split}
@@ -135,6 +147,23 @@ module _ (plan : Ports) (f : MachineFlight) (r : Row) (new : f.new ≡ Some r) (
   made_names stays (Set t ∷ cs) V runs = set_step t cs V runs.0 (made_names stays cs (λ u. (V u × (name_of u ≡ name_of t → ⊥)) ⊎ (u ≡ t)) runs.1)
   made_names stays (Take n ∷ cs) V runs = no_take stays n runs.0.goes
 
+  -- an interface that goes over makes no name that was not there
+  moved_names : (o : Option Base) (v w : Vrf) (V : Thing → Type 0) → Runs plan f V (take_all (from o (λ b. thing.Rif b v ∷ [])) (make_all (from o (λ b. thing.Rif b w ∷ [])) [])) → MadeNames plan f kind V (take_all (from o (λ b. thing.Rif b v ∷ [])) (make_all (from o (λ b. thing.Rif b w ∷ [])) []))
+  moved_names None v w V runs = record { names = []; distinct = tt; count = refl; fresh = λ n h. elim h [ ]; final = λ n h. elim h [ ]; kinds = λ n h. elim h [ ]; all = λ n at h. inl h }
+  moved_names (Some b) v w V runs = record {
+    names = [];
+    distinct = tt;
+    count = omega arith;
+    fresh = λ n h. elim h [ ];
+    final = λ n h. elim h [ ];
+    kinds = λ n h. elim h [ ];
+    all = λ n at h. inl (was n h);
+  }
+    where
+      was : (n : ThingName) → HasName (λ u. (V u × (name_of u ≡ name.Rif b → ⊥)) ⊎ (u ≡ thing.Rif b w)) n → HasName V n
+      was n (u, inl h, is) = (u, h.0, is)
+      was n (u, inr same, is) = let t = runs.0.there in (t.0, t.1, t.2 ∙ sym (ap name_of same) ∙ is)
+
   runs_end : (due : List Change) (V : Thing → Type 0) → Runs plan f V due → (u : Thing) → IsConcern plan f (name_of u) → IsFinal plan f u → after_all due V u
   runs_end [] V runs u c h = (runs u c).1 h
   runs_end (d ∷ ds) V runs u c h = runs_end ds (λ x. after d (V x) x) runs.1 u c h
@@ -173,21 +202,53 @@ marked_distinct (n ∷ ns) d = (d.0, marked_distinct ns d.1)
 
 -- ---- the kinds for which there is no room
 
-module _ (plan : Ports) (is : IsPlan plan) (capacities : List ℕ) (m : Machine) (sound : IsConsistent plan m) (quiet : (w : ℕ) (f : MachineFlight) → m.board.flights w ≡ Some f → ⊥) (made : ℕ) (objects : Objects) (whole : IsWhole made objects) (laid : IsLaidOut (listed m.stands) objects) (w : ℕ) (f : MachineFlight) (due : List Change) (begins : MayBegin plan m w f due) (r : Row) (new : f.new ≡ Some r) (kind : Kind) where
+module _ (plan : Ports) (is : IsPlan plan) (capacities : List ℕ) (m : Machine) (sound : IsConsistent plan m) (quiet : (w : ℕ) (f : MachineFlight) → m.board.flights w ≡ Some f → ⊥) (made : ℕ) (objects : Objects) (whole : IsWhole made objects) (laid : IsLaidOut (listed m.stands) objects) (w : ℕ) (f : MachineFlight) (due : List Change) (begins : MayBegin plan m w f due) (row : BareRow) (new : f.new ≡ Some (place (router_in (bare_rows m.board.applied) f.key) row)) (kind : Kind) where
   T : TableLaws plan
   T = tabled plan is
+
+  abbrev rows : TypedRows
+  rows = bare_rows m.board.applied
+
+  abbrev r : Row
+  r = place (router_in rows f.key) row
 
   runs : Runs plan f (StandsIn m) due
   runs = (starts plan is m sound w f due begins).runs
 
+  over : (k : Key) (old : Option Row) (n : Row) → goes_over k old (Some n) ≡ true → (i : IfName) × (v : Vrf) × (w : Vrf) × (k ≡ key.Intf i) × (old ≡ Some (placed.Intf v)) × (n ≡ placed.Intf w) × (not (same_vrf v w) ≡ true)
+  over (key.Intf i) (Some (placed.Intf v)) (placed.Intf w) h = (i, v, w, refl, refl, refl, h)
+  over k old n h = absurd (false≢true h)
+
+  falsed : (b : Bool) → not b ≡ true → b ≡ false
+  falsed true h = absurd (false≢true h)
+  falsed false h = refl
+
+  -- the changes of an interface that goes over
+  moved_due : f.goes ≡ true → (i : IfName) × (v : Vrf) × (w : Vrf) × (due ≡ take_all (from (base_of plan i) (λ b. thing.Rif b v ∷ [])) (make_all (from (base_of plan i) (λ b. thing.Rif b w ∷ [])) []))
+  moved_due goes =
+      let x = over f.key (m.board.applied f.key) r (sym (ap (goes_over f.key (m.board.applied f.key)) new) ∙ sym begins.goes ∙ goes) in
+      let new_is : f.new ≡ Some (placed.Intf x.2) = new ∙ ap Some x.5 in
+      let own = ap₂ (own_changes plan f.key) x.4 new_is ∙ ap (λ k. own_changes plan k (Some (placed.Intf x.1)) (Some (placed.Intf x.2))) x.3 ∙ ap (λ b. if b then [] else take_all (own_things plan (key.Intf x.0) (placed.Intf x.1)) (make_all (own_things plan (key.Intf x.0) (placed.Intf x.2)) [])) (falsed (same_vrf x.1 x.2) x.6) in
+      (x.0, x.1, x.2, begins.operation.is ∙ ap₂ built_first (none x.0 x.2 x.3 new_is begins.operation.builds refl) own)
+    where
+      none : (i : IfName) (w : Vrf) → f.key ≡ key.Intf i → f.new ≡ Some (placed.Intf w) → (b : Option Owner) → begins.operation.builds ≡ b → begins.operation.builds ≡ None
+      none i w is new_is None e = e
+      none i w is new_is (Some o) e = elim (subst (λ k. IsIn o (uses_of plan k (Some (placed.Intf w)))) is (subst (λ z. IsIn o (uses_of plan f.key z)) new_is (begins.operation.built o e).0)) [ ]
+
   makes_names : MadeNames plan f kind (StandsIn m) due
-  makes_names = made_names plan f r new begins.none kind (λ goes. false≢true (sym (begins.goes ∙ ap (goes_over f.key (m.board.applied f.key)) new) ∙ goes)) due (StandsIn m) runs
+  makes_names = by f.goes refl
+    where
+      by : (b : Bool) → f.goes ≡ b → MadeNames plan f kind (StandsIn m) due
+      by false e = made_names plan f r new begins.none kind (λ goes. false≢true (sym e ∙ goes)) due (StandsIn m) runs
+      by true e =
+          let x = moved_due e in
+          subst (MadeNames plan f kind (StandsIn m)) (sym x.3) (moved_names plan f r new begins.none kind (base_of plan x.0) x.1 x.2 (StandsIn m) (subst (Runs plan f (StandsIn m)) x.3 runs))
 
   standing : (names : List ThingName) × AreAll (listed m.stands) kind names × (length names ≡ used objects kind)
   standing = counted (listed m.stands) objects laid kind made whole
 
   abbrev IsOne : Thing → Type 0
-  IsOne t = IsThingOf plan m.board.applied t ⊎ IsIn t (things_of plan f.key r)
+  IsOne t = IsThingOf plan rows t ⊎ IsIn t (things_of plan f.key r)
 
   final_of : (t : Thing) → IsFinal plan f t → IsIn t (things_of plan f.key r)
   final_of t (inl h) = (things-split plan f.key r).back t (inl (subst (λ z. IsIn t (own_of plan f.key z)) new h))
@@ -200,16 +261,16 @@ module _ (plan : Ports) (is : IsPlan plan) (capacities : List ℕ) (m : Machine)
       by (inl h) = inl (subst (λ z. IsIn t (own_of plan f.key z)) (sym new) h)
       by (inr (o, at, in_it)) = inr (o, subst (λ z. IsIn o (uses_of plan f.key z)) (sym new) at, in_it)
 
-  stands_of : (t : Thing) → StandsIn m t → IsThingOf plan m.board.applied t
+  stands_of : (t : Thing) → StandsIn m t → IsThingOf plan rows t
   stands_of t h = let o = sound.owned t h in into_by plan (tabled plan is) m sound quiet t h o.0 o.1 (sort_of o.0)
 
-  of_applied : (t : Thing) → IsThingOf plan m.board.applied t → StandsIn m t
-  of_applied t h = back_by plan (tabled plan is) m sound quiet t h.0 h.1 h.2 ((things-split plan h.0 h.1).into t h.3)
+  of_applied : (t : Thing) → IsThingOf plan rows t → StandsIn m t
+  of_applied t h = let y = row_of_thing plan m.board sound.board t h in back_by plan (tabled plan is) m sound quiet t y.0 y.1 y.2 ((things-split plan y.0 y.1).into t y.3)
 
-  pub overflows : capacity_of capacities kind < used objects kind + makes kind due → Overflows plan capacities m.board.applied f.key r kind
+  pub overflows : capacity_of capacities kind < used objects kind + makes kind due → Overflows plan capacities rows f.key row kind
   overflows many = with_names standing makes_names
     where
-      with_names : ((names : List ThingName) × AreAll (listed m.stands) kind names × (length names ≡ used objects kind)) → MadeNames plan f kind (StandsIn m) due → Overflows plan capacities m.board.applied f.key r kind
+      with_names : ((names : List ThingName) × AreAll (listed m.stands) kind names × (length names ≡ used objects kind)) → MadeNames plan f kind (StandsIn m) due → Overflows plan capacities rows f.key row kind
       with_names (names, all, count) x = record {
         keys = names ++ x.names;
         distinct = marked_distinct (names ++ x.names) (distinct_append names x.names all.distinct x.distinct (λ n h g. x.fresh n g (stood n h)));
@@ -234,7 +295,7 @@ module _ (plan : Ports) (is : IsPlan plan) (capacities : List ℕ) (m : Machine)
               let three = x.count in
               omega (arith, many, two, three, count)
 
-  pub no-overflow : used objects kind + makes kind due ≤ capacity_of capacities kind → Overflows plan capacities m.board.applied f.key r kind → ⊥
+  pub no-overflow : used objects kind + makes kind due ≤ capacity_of capacities kind → Overflows plan capacities rows f.key row kind → ⊥
   no-overflow fits x = by standing makes_names
     where
       by : ((names : List ThingName) × AreAll (listed m.stands) kind names × (length names ≡ used objects kind)) → MadeNames plan f kind (StandsIn m) due → ⊥

@@ -1,5 +1,5 @@
 -- places on the chip are kept
-use Rattle.std.proofs.Common.{◌∙◌, ◌≡◌, ◌⊎◌, ◌+◌, ◌≤◌, ◌<◌, ◌==◌, ◌∷◌, inl, inr, ℕ, zero, suc, cond, List, [], Option, None, Some, option_map, unwrap_or, refl, sym, ap, subst, arith}
+use Rattle.std.proofs.Common.{◌∙◌, ◌≡◌, ◌⊎◌, ◌+◌, ◌≤◌, ◌<◌, ◌==◌, ◌∷◌, inl, inr, ℕ, zero, suc, cond, List, [], Option, None, Some, option_map, unwrap_or, max, refl, sym, ap, subst, arith}
 use Rattle.std.specs.BTreeMap.{insert_entry, is_at}
 use Rattle.std.specs.List.{sum_by}
 use Rattle.std.specs.Map.{remove_entry, values_of}
@@ -21,7 +21,8 @@ use Rattle.sai_types.specs.Refusal.{capacity_of}
 use Rattle.sai_types.proofs.Apart.{kind_of-with_attr}
 use Rattle.sai_types.proofs.Entries.{entry_total}
 use Rattle.chip_layout.specs.Bodies.{IsBody}
-use Rattle.chip_layout.specs.Layout.{Has, HasRoom, Layout}
+use Rattle.chip_layout.proofs.Laid.{found-body}
+use Rattle.chip_layout.specs.Layout.{Has, HasRoom, Layout, IsLaidOut}
 use Rattle.sai_types.specs.Names.{name_kind, name_of}
 use Rattle.chip_layout.proofs.Bodies.{kind-body}
 use Rattle.row_layout.specs.Operations.{Change, Make, Set, Take}
@@ -79,68 +80,51 @@ sum_most (suc n) f g less =
     let last = less n in
     omega (arith, rest, last)
 
+max_right : (a b : ℕ) → b ≤ max a b
+max_right a b = omega arith
+
 -- what is kept covers what is missing
-pub room-covered : (workers : ℕ) (capacities : List ℕ) (objects : Objects) (m : Machine) (due : List Change) → AreCovered m → HasRoomFor workers capacities objects m due → (kind : Kind) → 0 < makes kind due → used objects kind + missing workers m kind + makes kind due ≤ capacity_of capacities kind
-room-covered workers capacities objects m due covered room kind more =
-    let most = sum_most workers (λ w. makes kind (m.due w)) (λ w. makes kind (m.reserved w)) (λ w. covered.due w kind) in
+pub room-covered : (workers : ℕ) (capacities : List ℕ) (objects : Objects) (m : Machine) (due : List Change) → HasRoomFor workers capacities objects m due → (kind : Kind) → 0 < makes kind due → used objects kind + missing workers m kind + makes kind due ≤ capacity_of capacities kind
+room-covered workers capacities objects m due room kind more =
+    let most = sum_most workers (λ w. makes kind (m.due w)) (λ w. max (makes kind (m.reserved w)) (makes kind (m.due w))) (λ w. max_right (makes kind (m.reserved w)) (makes kind (m.due w))) in
     let fits = room kind more in
     omega (arith, most, fits)
 
-makes_less : (kind : Kind) (c : Change) (cs : List Change) → makes kind cs ≤ makes kind (c ∷ cs)
-makes_less kind (Make t) cs = omega arith
-makes_less kind (Set t) cs = omega arith
-makes_less kind (Take n) cs = omega arith
-
 pub covered-moved : (m : Machine) (w : ℕ) (c : Change) (cs : List Change) (stands : List (Rid × Thing)) → m.due w ≡ c ∷ cs → AreCovered m → AreCovered (moved m w cs stands)
-covered-moved m w c cs stands due covered = record { due = λ v kind. by v kind (nat_split v w); idle = covered.idle }
+covered-moved m w c cs stands due covered = record { due = λ v none. by v none (nat_split v w); idle = covered.idle }
   where
-    by : (v : ℕ) (kind : Kind) → IsSplit v w → makes kind (put w cs m.due v) ≤ makes kind (m.reserved v)
-    by v kind (inr other) = subst (λ d. makes kind d ≤ makes kind (m.reserved v)) (sym (put_off w v cs m.due other)) (covered.due v kind)
-    by v kind (inl same) =
-        let was = covered.due v kind in
-        let that = ap (makes kind) (ap m.due same ∙ due) in
-        let less = makes_less kind c cs in
-        let now = ap (makes kind) (put_at w v cs m.due same) in
-        omega (arith, was, that, less, now)
+    by : (v : ℕ) → m.board.flights v ≡ None → IsSplit v w → put w cs m.due v ≡ []
+    by v none (inr other) = put_off w v cs m.due other ∙ covered.due v none
+    by v none (inl same) = let nothing = sym (ap m.due same ∙ due) ∙ covered.due v none in absurd cc
 
 pub covered-started : (m : Machine) (w : ℕ) (f : MachineFlight) (due : List Change) → AreCovered m → AreCovered (started m w f due)
-covered-started m w f due covered = record { due = λ v kind. by v kind (nat_split v w); idle = λ v none. idle v none (nat_split v w) }
+covered-started m w f due covered = record { due = λ v none. by v none (nat_split v w); idle = λ v none. idle v none (nat_split v w) }
   where
-    by : (v : ℕ) (kind : Kind) → IsSplit v w → makes kind (put w due m.due v) ≤ makes kind (put w due m.reserved v)
-    by v kind (inr other) =
-        let was = covered.due v kind in
-        let one = ap (makes kind) (put_off w v due m.due other) in
-        let two = ap (makes kind) (put_off w v due m.reserved other) in
-        omega (arith, was, one, two)
-    by v kind (inl same) =
-        let one = ap (makes kind) (put_at w v due m.due same) in
-        let two = ap (makes kind) (put_at w v due m.reserved same) in
-        omega (arith, one, two)
+    by : (v : ℕ) → put w (Some f) m.board.flights v ≡ None → IsSplit v w → put w due m.due v ≡ []
+    by v none (inl same) = let two = sym (put_at w v (Some f) m.board.flights same) ∙ none in absurd cc
+    by v none (inr other) = put_off w v due m.due other ∙ covered.due v (sym (put_off w v (Some f) m.board.flights other) ∙ none)
 
     idle : (v : ℕ) → put w (Some f) m.board.flights v ≡ None → IsSplit v w → put w due m.reserved v ≡ []
     idle v none (inl same) = let two = sym (put_at w v (Some f) m.board.flights same) ∙ none in absurd cc
     idle v none (inr other) = put_off w v due m.reserved other ∙ covered.idle v (sym (put_off w v (Some f) m.board.flights other) ∙ none)
 
-pub covered-left : (m : Machine) (w : ℕ) (f : MachineFlight) (retires : Option Owner) (due : List Change) → ((kind : Kind) → makes kind due ≡ 0) → AreCovered m → AreCovered (left m w f retires due)
-covered-left m w f retires due none covered = record { due = λ v kind. by v kind (nat_split v w); idle = λ v absent. idle v absent (nat_split v w) }
+pub covered-left : (m : Machine) (w : ℕ) (f : MachineFlight) (retires : Option Owner) (due : List Change) → AreCovered m → AreCovered (left m w f retires due)
+covered-left m w f retires due covered = record { due = λ v absent. by v absent (nat_split v w); idle = λ v absent. idle v absent (nat_split v w) }
   where
-    by : (v : ℕ) (kind : Kind) → IsSplit v w → makes kind (put w due m.due v) ≤ makes kind (m.reserved v)
-    by v kind (inr other) = subst (λ d. makes kind d ≤ makes kind (m.reserved v)) (sym (put_off w v due m.due other)) (covered.due v kind)
-    by v kind (inl same) =
-        let one = ap (makes kind) (put_at w v due m.due same) in
-        let nothing = none kind in
-        omega (arith, one, nothing)
+    by : (v : ℕ) → put w (Some (parted f retires)) m.board.flights v ≡ None → IsSplit v w → put w due m.due v ≡ []
+    by v absent (inl same) = let two = sym (put_at w v (Some (parted f retires)) m.board.flights same) ∙ absent in absurd cc
+    by v absent (inr other) = put_off w v due m.due other ∙ covered.due v (sym (put_off w v (Some (parted f retires)) m.board.flights other) ∙ absent)
 
     idle : (v : ℕ) → put w (Some (parted f retires)) m.board.flights v ≡ None → IsSplit v w → m.reserved v ≡ []
     idle v absent (inl same) = let two = sym (put_at w v (Some (parted f retires)) m.board.flights same) ∙ absent in absurd cc
     idle v absent (inr other) = covered.idle v (sym (put_off w v (Some (parted f retires)) m.board.flights other) ∙ absent)
 
 pub covered-ended : (m : Machine) (w : ℕ) (f : MachineFlight) → m.due w ≡ [] → AreCovered m → AreCovered (finished m w f)
-covered-ended m w f done covered = record { due = λ v kind. by v kind (nat_split v w); idle = λ v none. idle v none (nat_split v w) }
+covered-ended m w f done covered = record { due = λ v none. by v none (nat_split v w); idle = λ v none. idle v none (nat_split v w) }
   where
-    by : (v : ℕ) (kind : Kind) → IsSplit v w → makes kind (m.due v) ≤ makes kind (put w [] m.reserved v)
-    by v kind (inr other) = subst (λ d. makes kind (m.due v) ≤ makes kind d) (sym (put_off w v [] m.reserved other)) (covered.due v kind)
-    by v kind (inl same) = let nothing = ap (makes kind) (ap m.due same ∙ done) in omega (arith, nothing)
+    by : (v : ℕ) → put w None m.board.flights v ≡ None → IsSplit v w → m.due v ≡ []
+    by v none (inl same) = ap m.due same ∙ done
+    by v none (inr other) = covered.due v (sym (put_off w v None m.board.flights other) ∙ none)
 
     idle : (v : ℕ) → put w None m.board.flights v ≡ None → IsSplit v w → put w [] m.reserved v ≡ []
     idle v none (inl same) = put_at w v [] m.reserved same
@@ -177,12 +161,14 @@ used-made kind objects n b sorted =
     let sum = used_put kind objects (entry_of n b) b sorted in
     omega (arith, sum)
 
-pub used-taken : (kind : Kind) (objects : Objects) (n : ℕ) (e : Entry Rid) → used (after_call n objects (call.Remove e)) kind ≤ used objects kind
-used-taken kind objects n e =
+-- what goes leaves its place
+pub used-taken : (kind : Kind) (objects : Objects) (n : ℕ) (e : Entry Rid) (b : Body Rid) → body_at objects e ≡ Some b → used (after_call n objects (call.Remove e)) kind + counts kind b ≡ used objects kind
+used-taken kind objects n e b at =
     let sum = sum_by-remove_entry (counts kind) (is_at (entry_cmp e)) objects in
+    let had = count_of kind b (body_at objects e) at in
     let one = used_values kind (remove_entry (is_at (entry_cmp e)) objects) in
     let two = used_values kind objects in
-    omega (arith, sum, one, two)
+    omega (arith, sum, one, two, had)
 
 pub used-set : (kind : Kind) (objects : Objects) (n : ℕ) (e : Entry Rid) (a : Attr Rid) (o : Option (Body Rid)) → AreSorted objects → body_at objects e ≡ o → used (after_set objects e a o) kind ≤ used objects kind
 used-set kind objects n e a None sorted at = omega arith
@@ -212,8 +198,8 @@ module _ (workers : ℕ) (capacities : List ℕ) (made : ℕ) (objects : Objects
       lt-leb (capacity_of capacities kind) (used objects kind) (omega (arith, fits, least, that, one))
 
   -- a call keeps the places
-  pub places-kept : (layout : Layout Rid) (c : Change) (cs : List Change) (d : Call Rid) → AreSorted objects → HasPlaces workers capacities objects m → m.due w ≡ c ∷ cs → later.due w ≡ cs → IsCall layout c d → HasPlaces workers capacities (after_call (made + 1) objects d) later
-  places-kept layout (Make t) cs d sorted places due after x kind =
+  pub places-kept : (layout : Layout Rid) (laid : IsLaidOut layout objects) (c : Change) (cs : List Change) (d : Call Rid) → AreSorted objects → HasPlaces workers capacities objects m → m.due w ≡ c ∷ cs → later.due w ≡ cs → IsCall layout c d → HasPlaces workers capacities (after_call (made + 1) objects d) later
+  places-kept layout laid (Make t) cs d sorted places due after x kind =
       let fits = places kind in
       let sum = sums kind in
       let was = ap (makes kind) due in
@@ -221,20 +207,22 @@ module _ (workers : ℕ) (capacities : List ℕ) (made : ℕ) (objects : Objects
       let count = kind_count layout t x.body kind x.of in
       let less = used-made kind objects (made + 1) x.body sorted in
       subst (λ z. used (after_call (made + 1) objects z) kind + missing workers later kind ≤ capacity_of capacities kind) (sym x.is) (omega (arith, fits, sum, was, now, count, less))
-  places-kept layout (Set t) cs d sorted places due after x kind =
+  places-kept layout laid (Set t) cs d sorted places due after x kind =
       let fits = places kind in
       let sum = sums kind in
       let was = ap (makes kind) due in
       let now = ap (makes kind) after in
       let less = used-set kind objects (made + 1) (entry_of x.id.0 x.body) x.attr (body_at objects (entry_of x.id.0 x.body)) sorted refl in
       subst (λ z. used (after_call (made + 1) objects z) kind + missing workers later kind ≤ capacity_of capacities kind) (sym x.is) (omega (arith, fits, sum, was, now, less))
-  places-kept layout (Take n) cs d sorted places due after x kind =
+  places-kept layout laid (Take n) cs d sorted places due after x kind =
       let fits = places kind in
       let sum = sums kind in
       let was = ap (makes kind) due in
       let now = ap (makes kind) after in
-      let less = used-taken kind objects (made + 1) (entry_of x.id.0 x.body) in
-      subst (λ z. used (after_call (made + 1) objects z) kind + missing workers later kind ≤ capacity_of capacities kind) (sym x.is) (omega (arith, fits, sum, was, now, less))
+      let count = kind_count layout x.old x.body kind x.of in
+      let named = ap {B = ℕ} (λ m. cond (level (name_kind m) == level kind) 1 0) x.named in
+      let less = used-taken kind objects (made + 1) (entry_of x.id.0 x.body) x.body (found-body layout objects laid x.id x.old x.body x.stands x.of) in
+      subst (λ z. used (after_call (made + 1) objects z) kind + missing workers later kind ≤ capacity_of capacities kind) (sym x.is) (omega (arith, fits, sum, was, now, less, count, named))
 
   -- an operation for which there is room keeps the places
   pub places-begun : (due : List Change) → HasPlaces workers capacities objects m → later.due w ≡ due → ((kind : Kind) → 0 < makes kind due → used objects kind + missing workers m kind + makes kind due ≤ capacity_of capacities kind) → HasPlaces workers capacities objects later

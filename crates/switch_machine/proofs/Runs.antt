@@ -2,7 +2,6 @@
 use Rattle.std.proofs.Common.{◌≡◌, ◌⊎◌, ◌+◌, ◌∷◌, inl, inr, ℕ, zero, suc, List, [], Option, None, Some, refl, sym, ap, subst, arith}
 use Rattle.table_schema.specs.Plan.{Ports, IsPlan}
 use Rattle.table_schema.specs.declared.key.Key.{Key}
-use Rattle.table_schema.specs.declared.row.Row.{Row}
 use Rattle.sai_types.specs.declared.ids.Rid.{Rid}
 use Rattle.sai_types.specs.declared.kind.Kind.{Kind}
 use Rattle.sai_types.specs.declared.body.Call.{Call}
@@ -10,6 +9,7 @@ use Rattle.sai_types.specs.After.{after_call}
 use Rattle.sai_types.specs.Alike.{IsAlike, IsIn}
 use Rattle.sai_types.specs.Made.{AreLegal}
 use Rattle.sai_types.proofs.Whole.{whole-empty}
+use Rattle.switch_model.specs.Placed.{Placed as Row, bare_rows}
 use Rattle.switch_model.specs.Desired.{IsThingOf}
 use Rattle.switch_model.specs.Good.{good_row}
 use Rattle.switch_machine.specs.Written.{HasWrittenRows, IsTold, Written, good_of}
@@ -48,14 +48,14 @@ module _ (plan : Ports) (is : IsPlan plan) (workers : ℕ) (capacities : List �
   legal-run s (e ∷ es) kept run = legal_event s e.1 e.0 (calls_of es) kept run.0 (legal-run e.1 es (kept-event plan is workers capacities s e.1 e.0 kept run.0) run.1)
 
   -- without operations the chip is alike to the things of the applied rows
-  pub alike-quiet : (s : SwitchState) → IsSafe plan workers capacities s → IsQuiet s → IsAlike s.objects (IsThingOf plan s.machine.board.applied)
+  pub alike-quiet : (s : SwitchState) → IsSafe plan workers capacities s → IsQuiet s → IsAlike s.objects (IsThingOf plan (bare_rows s.machine.board.applied))
   alike-quiet s kept quiet = alike-rest plan T s.machine kept.sound quiet s.made s.objects kept.whole kept.laid
 
   -- and a key that is not to sync has its good row
-  pub good-quiet : (s : SwitchState) → IsSafe plan workers capacities s → IsQuiet s → (k : Key) → (IsIn k s.to_sync → ⊥) → s.machine.board.applied k ≡ good_of plan s.written k
+  pub good-quiet : (s : SwitchState) → IsSafe plan workers capacities s → IsQuiet s → (k : Key) → (IsIn k s.to_sync → ⊥) → bare_rows s.machine.board.applied k ≡ good_of plan s.written k
   good-quiet s kept quiet k none = by (kept.synced k)
     where
-      by : IsIn k s.to_sync ⊎ IsCurrent s.machine.board (good_of plan s.written) k → s.machine.board.applied k ≡ good_of plan s.written k
+      by : IsIn k s.to_sync ⊎ IsCurrent s.machine.board (good_of plan s.written) k → bare_rows s.machine.board.applied k ≡ good_of plan s.written k
       by (inl h) = absurd (none h)
       by (inr (inl h)) = h.1
       by (inr (inr (w, f, at, is, that))) = absurd (quiet w f at)
@@ -69,6 +69,7 @@ module _ (plan : Ports) (is : IsPlan plan) (workers : ℕ) (capacities : List �
         fit = λ k r row. no_row k r row;
         named = λ k p r row h. no_row k r row;
         goes = λ w f at. absurd cc;
+        inside = λ n ip len v w is at. absurd cc;
         leaves = λ w f o at h. absurd cc;
         left = λ w f o at h. absurd cc;
         unused = λ w f k o at h user. cc;
@@ -90,7 +91,7 @@ module _ (plan : Ports) (is : IsPlan plan) (workers : ℕ) (capacities : List �
     places = λ kind. omega (arith, none_due kind workers);
     synced = λ k. synced k (all k);
     told = told;
-    covered = record { due = λ w kind. omega arith; idle = λ w none. refl };
+    covered = record { due = λ w none. refl; idle = λ w none. refl };
     dated = dated;
     good = λ k r row. no_row k r row;
   }

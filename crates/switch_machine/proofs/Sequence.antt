@@ -5,15 +5,12 @@ use Rattle.std.specs.List.{list_any}
 use Rattle.std.proofs.lemmas.List.{append-nil}
 use Rattle.std.proofs.lemmas.Option.{same_Some}
 use Rattle.swss_types.specs.declared.interface.IfName.TheVariants as on
-use Rattle.swss_types.specs.declared.vrf.Vrf.TheVariants as vrf
 use Rattle.swss_types.proofs.Routers.{vrf-exact}
 use Rattle.swss_types.proofs.Tied.{tied}
 use Rattle.table_schema.specs.Key.{key_cmp}
 use Rattle.table_schema.specs.Plan.{Ports}
 use Rattle.table_schema.specs.declared.key.Key.{Key}
 use Rattle.table_schema.specs.declared.key.Key.TheVariants as key
-use Rattle.table_schema.specs.declared.row.Row.{Row}
-use Rattle.table_schema.specs.declared.row.Row.TheVariants as row
 use Rattle.table_schema.specs.declared.row.RouteRow.TheVariants as route
 use Rattle.table_schema.proofs.Keys.{key_exact}
 use Rattle.sai_types.specs.declared.weight.WHop.{WHop}
@@ -23,7 +20,8 @@ use Rattle.sai_types.specs.declared.thing.Thing.{Thing}
 use Rattle.sai_types.specs.declared.thing.Thing.TheVariants as thing
 use Rattle.sai_types.specs.Alike.{IsIn}
 use Rattle.sai_types.proofs.Exact.{ip-exact}
-use Rattle.switch_model.specs.Good.{TypedRows}
+use Rattle.switch_model.specs.Placed as row
+use Rattle.switch_model.specs.Placed.{Placed as Row, PlacedRows}
 use Rattle.switch_model.specs.Things.{hops_of, lane_of}
 use Rattle.row_layout.specs.Operations.{Change, Make, build_all, changes_of, make_all, own_changes, retire_all, same_owner, shared_going, take_all, unshared, uses_of}
 use Rattle.row_layout.specs.Rows as owner
@@ -71,9 +69,9 @@ group_short (Some (hop ∷ next ∷ hops)) = inr (owner.Group (hop ∷ next ∷ 
 
 row_short : (plan : Ports) (k : Key) (r : Row) → IsShort (uses plan k r)
 row_short plan (key.Member v p) (row.Member t) = from_short (lane_of plan p) owner.Bridge
-row_short plan (key.Addr (on.Ethernet p) ip len) row.Addr = from_short (lane_of plan p) (λ lane. owner.Own vrf.Default ip)
-row_short plan (key.Addr (on.Vlan v) ip len) row.Addr = inr (owner.Own vrf.Default ip, refl)
-row_short plan (key.Addr (on.Loopback n) ip len) row.Addr = inr (owner.Own vrf.Default ip, refl)
+row_short plan (key.Addr (on.Ethernet p) ip len) (row.Addr v) = from_short (lane_of plan p) (λ lane. owner.Own v ip)
+row_short plan (key.Addr (on.Vlan n) ip len) (row.Addr v) = inr (owner.Own v ip, refl)
+row_short plan (key.Addr (on.Loopback n) ip len) (row.Addr v) = inr (owner.Own v ip, refl)
 row_short plan (key.Route v prefix) (row.Route (route.Hops hops)) = group_short (hops_of plan hops)
 row_short plan (key.Route v prefix) (row.Route route.Drop) = inl refl
 row_short plan (key.Route v prefix) (row.Route (route.Direct i)) = inl refl
@@ -120,7 +118,7 @@ pub make_append : (ts : List Thing) (own rest : List Change) → make_all ts own
 make_append [] own rest = refl
 make_append (t ∷ ts) own rest = ap (λ z. Make t ∷ z) (make_append ts own rest)
 
-module _ (plan : Ports) (workers w : ℕ) (f : MachineFlight) (rows : TypedRows) (used : Owner → Bool) (by_others : IsUsedByOthers plan rows f.key used) (leaves : (o : Owner) → f.leaves ≡ Some o → IsIn o (uses_of plan f.key (rows f.key)) × (IsIn o (uses_of plan f.key f.new) → ⊥)) (covers : (o : Owner) → IsIn o (uses_of plan f.key (rows f.key)) → CountsAsUser plan f o) where
+module _ (plan : Ports) (workers w : ℕ) (f : MachineFlight) (rows : PlacedRows) (used : Owner → Bool) (by_others : IsUsedByOthers plan rows f.key used) (leaves : (o : Owner) → f.leaves ≡ Some o → IsIn o (uses_of plan f.key (rows f.key)) × (IsIn o (uses_of plan f.key f.new) → ⊥)) (covers : (o : Owner) → IsIn o (uses_of plan f.key (rows f.key)) → CountsAsUser plan f o) where
   abbrev was : List Owner
   was = uses_of plan f.key (rows f.key)
 

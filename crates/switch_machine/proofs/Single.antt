@@ -1,5 +1,5 @@
 -- a key has one reason to wait
-use Rattle.std.proofs.Common.{zero, suc, ◌≡◌, ◌⊎◌, ◌<◌, ◌≤◌, ◌∷◌, ◌∙◌, inl, inr, ℕ, true, List, [], Option, Some, Ordering, get_or, is_some, if◌then◌else◌, refl, sym, ap, subst, arith}
+use Rattle.std.proofs.Common.{zero, suc, ◌≡◌, ◌⊎◌, ◌<◌, ◌≤◌, ◌∷◌, ◌∙◌, inl, inr, ℕ, true, List, [], Option, Some, Ordering, get_or, is_some, option_map, if◌then◌else◌, refl, sym, ap, subst, arith}
 use Rattle.std.proofs.lemmas.Bool.{and_parts, cases_order, false≢true}
 use Rattle.std.proofs.lemmas.Option.{same_Some}
 use Rattle.std.specs.Ordering.{is_le, ordering_reverse}
@@ -8,26 +8,28 @@ use Rattle.table_schema.specs.Key.{key_cmp}
 use Rattle.table_schema.specs.Plan.{IsPlan, Ports}
 use Rattle.table_schema.specs.Names.{names_of}
 use Rattle.table_schema.specs.declared.key.Key.{Key}
-use Rattle.table_schema.specs.declared.row.Row.{Row}
+use Rattle.table_schema.specs.declared.row.Row.{Row as BareRow}
 use Rattle.table_schema.proofs.Keys.{key_exact, key_total}
 use Rattle.sai_types.specs.declared.kind.Kind.{Kind}
 use Rattle.sai_types.specs.declared.kind.Kind.TheVariants as kind
 use Rattle.sai_types.specs.Kinds.{all_kinds}
 use Rattle.sai_types.specs.Objects.{level}
+use Rattle.switch_model.specs.Placed.{bare_rows, place, router_in}
 use Rattle.switch_model.specs.Desired.{have_rows}
 use Rattle.switch_model.specs.Good.{TypedRows}
-use Rattle.switch_model.specs.Marks.{first_missing}
+use Rattle.switch_model.specs.Marks.{IsToGo, first_missing}
 use Rattle.switch_model.specs.declared.wait.Wait.{Wait}
 use Rattle.switch_model.specs.declared.wait.Wait.TheVariants as wait
-use Rattle.switch_machine.specs.Events.{IsSafe, SwitchState}
-use Rattle.switch_machine.specs.Flights.{MachineFlight, goes_over}
+use Rattle.switch_machine.specs.Events.{IsSafe, SwitchState, placed_good}
+use Rattle.switch_machine.specs.Flights.{MachineFlight}
 use Rattle.switch_machine.specs.Places.{makes}
 use Rattle.switch_machine.specs.Reasons.{IsFirstInTheWay, IsFlownBy, IsRowPrepared, IsReason, LacksRoom}
 use Rattle.switch_machine.specs.Written.{good_of}
 use Rattle.switch_machine.proofs.Hindered.{not-busy, not_held, not_missing, operation-one, some_none}
 use Rattle.switch_machine.proofs.Ordered.{ordered}
+use Rattle.switch_machine.proofs.Placing.{to_goes}
 
-one_row : (o : Option Row) (r x : Row) → o ≡ Some r → o ≡ Some x → r ≡ x
+one_row : (o : Option BareRow) (r x : BareRow) → o ≡ Some r → o ≡ Some x → r ≡ x
 one_row o r x h g = cc
 
 -- where all names have rows, none is missing
@@ -95,13 +97,16 @@ module _ (plan : Ports) (is : IsPlan plan) (workers : ℕ) (capacities : List �
   abbrev Is : Wait → Type 0
   Is w = IsReason plan workers capacities s k w
 
-  abbrev good : Option Row
+  abbrev rows : TypedRows
+  rows = bare_rows s.machine.board.applied
+
+  abbrev good : Option BareRow
   good = good_of plan s.written k
 
   -- what lacks room has no other reason
   module _ (kind : Kind) (l : LacksRoom plan workers capacities s k kind) where
-    new : l.flight.new ≡ good_of plan s.written l.flight.key
-    new = l.new ∙ sym l.good ∙ ap (good_of plan s.written) (sym l.is)
+    new : l.flight.new ≡ placed_good plan s.machine.board s.written l.flight.key
+    new = l.new ∙ sym (ap (placed_good plan s.machine.board s.written) l.is ∙ ap (option_map (place (router_in rows k))) l.good)
 
     at : (w : Wait) → Is w → IsReason plan workers capacities s l.flight.key w
     at w h = subst (λ q. IsReason plan workers capacities s q w) (sym l.is) h
@@ -118,7 +123,7 @@ module _ (plan : Ports) (is : IsPlan plan) (workers : ℕ) (capacities : List �
   -- of two kinds without room neither stands before the other
   not_lower : (a b : Kind) → LacksRoom plan workers capacities s k a → LacksRoom plan workers capacities s k b → level a < level b → ⊥
   not_lower a b x y less =
-      let one = operation-one plan (ordered plan is) s.machine x.flight y.flight (x.is ∙ sym y.is) (x.new ∙ sym x.good ∙ y.good ∙ sym y.new) x.due y.due x.begins.operation y.begins.operation in
+      let one = operation-one plan (ordered plan is) s.machine x.flight y.flight (x.is ∙ sym y.is) (x.new ∙ ap (λ r. Some (place (router_in rows k) r)) (one_row good x.row y.row x.good y.good) ∙ sym y.new) x.due y.due x.begins.operation y.begins.operation in
       let count = ap (makes a) one in
       let some = x.some in
       let many = x.many in
@@ -137,7 +142,7 @@ module _ (plan : Ports) (is : IsPlan plan) (workers : ℕ) (capacities : List �
   no_flown v rests (f, at, same) = rests v f at same
 
   abbrev IsSecond : ℕ → Type 0
-  IsSecond v = IsRowPrepared plan s k × IsFirstInTheWay plan s.machine k (good_of plan s.written k) v
+  IsSecond v = IsRowPrepared plan s k × IsFirstInTheWay plan s.machine k (placed_good plan s.machine.board s.written k) v
 
   one_busy : (v u : ℕ) → IsFlownBy s.machine.board k v ⊎ IsSecond v → IsFlownBy s.machine.board k u ⊎ IsSecond u → v ≡ u
   one_busy v u (inl (f, at, same)) (inl (g, there, that)) = kept.sound.board.one v u f g at there (same ∙ sym that)
@@ -147,16 +152,21 @@ module _ (plan : Ports) (is : IsPlan plan) (workers : ℕ) (capacities : List �
 
   missing_busy : (n : Key) (v : ℕ) → Is (wait.Missing n) → IsFlownBy s.machine.board k v ⊎ IsSecond v → ⊥
   missing_busy n v (rests, _) (inl x) = no_flown v rests x
-  missing_busy n v (rests, (row, at, missing)) (inr (prepared, first)) = have_all_rows s.machine.board.applied (names_of k row) n (prepared.named row at) missing
+  missing_busy n v (rests, (row, at, missing)) (inr (prepared, first)) = have_all_rows rows (names_of k row) n (prepared.named row at) missing
 
   held_busy : (h : Key) (v : ℕ) → Is (wait.Held h) → IsFlownBy s.machine.board k v ⊎ IsSecond v → ⊥
-  held_busy h v (rests, none, _) (inl x) = no_flown v rests x
-  held_busy h v (rests, none, (row, at, by)) (inr (prepared, first)) = prepared.unheld (ap (goes_over k (s.machine.board.applied k)) none) h by.row by.applied_row by.names
+  held_busy h v (rests, to_go, _) (inl x) = no_flown v rests x
+  held_busy h v (rests, to_go, (row, at, by)) (inr (prepared, first)) = prepared.unheld (to_goes s.machine.board k (router_in rows k) (good_of plan s.written) to_go) h by.row by.applied_row by.names
+
+  -- where a name is missing no row goes over
+  missing_held : {X : Type 0} (m : Key) (row : BareRow) → good ≡ Some row → first_missing rows (names_of k row) ≡ Some m → IsToGo (good_of plan s.written) rows k → X
+  missing_held m row at missing (inl none) = some_none row good at none
+  missing_held m row at missing (inr (old, new, at_old, at_new, have, moved)) = absurd (have_all_rows rows (names_of k new) m have (ap (λ r. first_missing rows (names_of k r)) (one_row good new row at_new at) ∙ missing))
 
   pub reason-one : (a b : Wait) → Is a → Is b → a ≡ b
-  reason-one (wait.Missing m) (wait.Missing n) (_, (row, at, missing)) (_, (other, there, that)) = ap wait.Missing (same_Some m n (sym missing ∙ ap (λ r. first_missing s.machine.board.applied (names_of k r)) (one_row good row other at there) ∙ that))
-  reason-one (wait.Missing m) (wait.Held h) (_, (row, at, _)) (_, none, _) = some_none row good at none
-  reason-one (wait.Held h) (wait.Missing m) (_, none, _) (_, (row, at, _)) = some_none row good at none
+  reason-one (wait.Missing m) (wait.Missing n) (_, (row, at, missing)) (_, (other, there, that)) = ap wait.Missing (same_Some m n (sym missing ∙ ap (λ r. first_missing rows (names_of k r)) (one_row good row other at there) ∙ that))
+  reason-one (wait.Missing m) (wait.Held h) (_, (row, at, missing)) (_, to_go, _) = missing_held m row at missing to_go
+  reason-one (wait.Held h) (wait.Missing m) (_, to_go, _) (_, (row, at, missing)) = missing_held m row at missing to_go
   reason-one (wait.Missing m) (wait.Busy v) x y = absurd (missing_busy m v x y)
   reason-one (wait.Busy v) (wait.Missing m) y x = absurd (missing_busy m v x y)
   reason-one (wait.Missing m) (wait.NoRoom kind) x l = absurd (no_missing kind l m x)

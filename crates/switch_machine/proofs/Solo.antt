@@ -5,23 +5,22 @@ use Rattle.std.proofs.lemmas.Option.{same_Some}
 use Rattle.table_schema.specs.Key.{key_cmp}
 use Rattle.table_schema.specs.Plan.{Ports}
 use Rattle.table_schema.specs.declared.key.Key.{Key}
-use Rattle.table_schema.specs.declared.row.Row.{Row}
 use Rattle.sai_types.specs.declared.ids.Rid.{Rid}
 use Rattle.sai_types.specs.declared.body.Call.{Call}
-use Rattle.switch_model.specs.Good.{TypedRows}
+use Rattle.switch_model.specs.Placed.{Placed as Row, PlacedRows}
 use Rattle.row_layout.specs.Rows.{Owner}
 use Rattle.row_layout.specs.Operations.{Change}
-use Rattle.switch_machine.specs.Events.{IsAnswer, AreAnswers, SwitchState, Due, Ended, Follows, IsQuiet, Left, Retires, IsBegin, after_answers}
+use Rattle.switch_machine.specs.Events.{IsAnswer, AreAnswers, SwitchState, Due, Ended, Follows, IsQuiet, Left, Retires, IsBegin, after_answers, placed_good}
 use Rattle.switch_machine.specs.Steps.{finished, left, moved, parted, started, with_row}
 use Rattle.switch_machine.specs.Flights.{MachineFlight, Machine}
 use Rattle.switch_machine.specs.Written.{good_of}
 use Rattle.switch_machine.proofs.Running.{no_flight}
 use Rattle.switch_machine.proofs.Splits.{IsPut, New, Old, put_at, put_by}
 
-row_same : (k : Key) (o p : Option Row) (rows old : TypedRows) (q : Key) → o ≡ p → rows q ≡ old q → with_row k o rows q ≡ with_row k p old q
+row_same : (k : Key) (o p : Option Row) (rows old : PlacedRows) (q : Key) → o ≡ p → rows q ≡ old q → with_row k o rows q ≡ with_row k p old q
 row_same k o p rows old q e h = ap (λ z. if is_at (key_cmp k) q then o else z) h ∙ ap (λ z. if is_at (key_cmp k) q then z else old q) e
 
-module _ (plan : Ports) (workers w : ℕ) (k : Key) (new : Option Row) (old : TypedRows) where
+module _ (plan : Ports) (workers w : ℕ) (k : Key) (new : Option Row) (old : PlacedRows) where
   record Flying (m : Machine) : Type 0 where
     there : (f : MachineFlight) × (m.board.flights w ≡ Some f)
     only : (v : ℕ) (g : MachineFlight) → m.board.flights v ≡ Some g → (v ≡ w) × (g.key ≡ k) × (g.new ≡ new)
@@ -74,20 +73,20 @@ module _ (plan : Ports) (workers w : ℕ) (k : Key) (new : Option Row) (old : Ty
   solo_answers s (e ∷ es) run h = solo_answers e.1 es run.1 (solo_answer s e.1 e.0 run.0 h)
 
 -- alone, an operation brings its key's good row and changes no other
-pub solo-key : (plan : Ports) (workers : ℕ) (capacities : List ℕ) (s t : SwitchState) (x : IsBegin plan workers capacities s t) (es : List (Call Rid × SwitchState)) → IsQuiet s → AreAnswers plan workers t es → IsQuiet (after_answers t es) → (q : Key) → (after_answers t es).machine.board.applied q ≡ with_row x.flight.key (good_of plan s.written x.flight.key) s.machine.board.applied q
-solo-key plan workers capacities s t x es quiet run end q = by (solo_answers plan workers x.worker x.flight.key (good_of plan s.written x.flight.key) s.machine.board.applied t es run first)
+pub solo-key : (plan : Ports) (workers : ℕ) (capacities : List ℕ) (s t : SwitchState) (x : IsBegin plan workers capacities s t) (es : List (Call Rid × SwitchState)) → IsQuiet s → AreAnswers plan workers t es → IsQuiet (after_answers t es) → (q : Key) → (after_answers t es).machine.board.applied q ≡ with_row x.flight.key (placed_good plan s.machine.board s.written x.flight.key) s.machine.board.applied q
+solo-key plan workers capacities s t x es quiet run end q = by (solo_answers plan workers x.worker x.flight.key (placed_good plan s.machine.board s.written x.flight.key) s.machine.board.applied t es run first)
   where
-    first : Solo plan workers x.worker x.flight.key (good_of plan s.written x.flight.key) s.machine.board.applied t.machine
-    first = solo_follows plan workers x.worker x.flight.key (good_of plan s.written x.flight.key) s.machine.board.applied (started s.machine x.worker x.flight x.due) t.machine (record {
+    first : Solo plan workers x.worker x.flight.key (placed_good plan s.machine.board s.written x.flight.key) s.machine.board.applied t.machine
+    first = solo_follows plan workers x.worker x.flight.key (placed_good plan s.machine.board s.written x.flight.key) s.machine.board.applied (started s.machine x.worker x.flight x.due) t.machine (record {
       there = (x.flight, put_at x.worker x.worker (Some x.flight) s.machine.board.flights refl);
       only = λ v g at. of v g (put_by x.worker v (Some x.flight) s.machine.board.flights (Some g) at);
       rows = λ q. refl;
     }) x.follows
       where
-        of : (v : ℕ) (g : MachineFlight) → IsPut x.worker v (Some x.flight) s.machine.board.flights (Some g) → (v ≡ x.worker) × (g.key ≡ x.flight.key) × (g.new ≡ good_of plan s.written x.flight.key)
+        of : (v : ℕ) (g : MachineFlight) → IsPut x.worker v (Some x.flight) s.machine.board.flights (Some g) → (v ≡ x.worker) × (g.key ≡ x.flight.key) × (g.new ≡ placed_good plan s.machine.board s.written x.flight.key)
         of v g (New same e) = let one = same_Some x.flight g e in (same, sym (ap (λ (z : MachineFlight). z.key) one), sym (ap (λ (z : MachineFlight). z.new) one) ∙ x.new)
         of v g (Old other there) = absurd (quiet v g there)
 
-    by : Solo plan workers x.worker x.flight.key (good_of plan s.written x.flight.key) s.machine.board.applied (after_answers t es).machine → (after_answers t es).machine.board.applied q ≡ with_row x.flight.key (good_of plan s.written x.flight.key) s.machine.board.applied q
+    by : Solo plan workers x.worker x.flight.key (placed_good plan s.machine.board s.written x.flight.key) s.machine.board.applied (after_answers t es).machine → (after_answers t es).machine.board.applied q ≡ with_row x.flight.key (placed_good plan s.machine.board s.written x.flight.key) s.machine.board.applied q
     by (Ends done) = done.rows q
     by (Flies f) = absurd (end x.worker f.there.0 f.there.1)

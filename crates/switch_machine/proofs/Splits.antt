@@ -13,7 +13,6 @@ use Rattle.swss_types.proofs.Tied.{tied}
 use Rattle.table_schema.specs.Key.{key_cmp}
 use Rattle.table_schema.specs.Plan.{Ports}
 use Rattle.table_schema.specs.declared.key.Key.{Key}
-use Rattle.table_schema.specs.declared.row.Row.{Row}
 use Rattle.table_schema.proofs.Keys.{key_exact, key_total}
 use Rattle.sai_types.specs.declared.hop.Base.{Base}
 use Rattle.sai_types.specs.declared.hop.Base.TheVariants as base
@@ -22,10 +21,10 @@ use Rattle.sai_types.specs.declared.weight.WHop.{WHop}
 use Rattle.sai_types.specs.declared.thing.Thing.{Thing}
 use Rattle.sai_types.specs.Named.{hop_cmp, whop_cmp}
 use Rattle.sai_types.specs.Alike.{IsIn}
-use Rattle.switch_model.specs.Good.{TypedRows}
 use Rattle.sai_types.proofs.Rising.{hop_exact, hop_total, whop_exact, whop_total}
 use Rattle.sai_types.specs.Names as name
 use Rattle.sai_types.specs.Names.{ThingName}
+use Rattle.switch_model.specs.Placed.{Placed as Row}
 use Rattle.row_layout.specs.Rows as owner
 use Rattle.row_layout.specs.Rows.{Owner, own_things}
 use Rattle.row_layout.specs.Operations.{uses_of}
@@ -146,14 +145,14 @@ put_by w v x f y h = by (nat_split v w)
     by (inl same) = New same (sym (put_at w v x f same) ∙ h)
     by (inr apart) = Old apart (sym (put_off w v x f apart) ∙ h)
 
-pub row_at : (k q : Key) (o : Option Row) (rows : TypedRows) → k ≡ q → with_row k o rows q ≡ o
+pub row_at : {X : Type 0} (k q : Key) (o : Option X) (rows : Key → Option X) → k ≡ q → with_row k o rows q ≡ o
 row_at k q o rows h = ap (λ b. if b then o else rows q) (subst (λ z. is_at (key_cmp k) z ≡ true) h ((eq_by_cmp_equiv key_total).refl k))
 
 off_key : (k q : Key) (b : Bool) → (b ≡ true → k ≡ q) → (k ≡ q → ⊥) → b ≡ false
 off_key k q true exact apart = absurd (apart (exact refl))
 off_key k q false exact apart = refl
 
-pub row_off : (k q : Key) (o : Option Row) (rows : TypedRows) → (k ≡ q → ⊥) → with_row k o rows q ≡ rows q
+pub row_off : {X : Type 0} (k q : Key) (o : Option X) (rows : Key → Option X) → (k ≡ q → ⊥) → with_row k o rows q ≡ rows q
 row_off k q o rows h = ap (λ b. if b then o else rows q) (off_key k q (is_at (key_cmp k) q) (λ e. key_exact k q (tied (key_cmp k q) e)) h)
 
 -- what belongs to a key's row belongs to a row

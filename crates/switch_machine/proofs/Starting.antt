@@ -1,10 +1,12 @@
 -- the machine stays sound where an operation starts
-use Rattle.std.proofs.Common.{◌≡◌, ◌⊎◌, ◌∙◌, inl, inr, ℕ, true, List, None, Some, refl, sym, ap, subst}
+use Rattle.std.proofs.Common.{◌≡◌, ◌⊎◌, ◌∙◌, inl, inr, ℕ, true, List, None, Some, option_map, refl, sym, ap, subst}
 use Rattle.std.proofs.lemmas.Option.{same_Some}
+use Rattle.swss_types.specs.declared.address.Ip.{Ip}
+use Rattle.swss_types.specs.declared.interface.IfName.{IfName}
+use Rattle.swss_types.specs.declared.vrf.Vrf.{Vrf}
 use Rattle.table_schema.specs.Plan.{Ports}
-use Rattle.table_schema.specs.Names.{names_of}
 use Rattle.table_schema.specs.declared.key.Key.{Key}
-use Rattle.table_schema.specs.declared.row.Row.{Row}
+use Rattle.table_schema.specs.declared.key.Key.TheVariants as key
 use Rattle.sai_types.specs.declared.thing.Thing.{Thing}
 use Rattle.sai_types.specs.Alike.{IsIn}
 use Rattle.row_layout.specs.Rows.{Owner}
@@ -12,6 +14,8 @@ use Rattle.row_layout.specs.Shared.{shared_things}
 use Rattle.row_layout.specs.Operations.{Change, uses_of}
 use Rattle.switch_machine.specs.Flights.{MachineBoard, CountsAsUser, Fits, MachineFlight, IsFirm, IsResting, IsRow, HasChangeOf, IsUser, Machine, Runs, StandsIn, goes_over}
 use Rattle.switch_machine.specs.Steps.{Starts, started}
+use Rattle.switch_model.specs.Placed as row
+use Rattle.switch_model.specs.Placed.{Placed as Row, bare, placed_names as names_of}
 use Rattle.switch_model.specs.Good.{TypedRows}
 use Rattle.switch_machine.specs.Consistent.{IsCurrent, IsUsedOrRetired, IsOrderly, IsConsistent, WasUsed}
 use Rattle.switch_machine.specs.Tables.{TableLaws}
@@ -108,6 +112,10 @@ module _ (plan : Ports) (tables : TableLaws plan) (m : Machine) (sound : IsConsi
   goes_by v g (New same e) = subst (λ (z : MachineFlight). z.goes ≡ goes_over z.key (b.applied z.key) z.new) (same_Some f g e) starts.goes
   goes_by v g (Old other there) = sound.board.goes v g there
 
+  inside_by : (n : IfName) (ip : Ip) (len : ℕ) (v u : Vrf) → b.applied (key.Intf n) ≡ Some (row.Intf u) → IsRow b (key.Addr n ip len) (row.Addr v) ⊎ ((f.key ≡ key.Addr n ip len) × (f.new ≡ Some (row.Addr v))) → v ≡ u
+  inside_by n ip len v u at (inl row) = sound.board.inside n ip len v u row at
+  inside_by n ip len v u at (inr (is, new)) = starts.inside n ip len v u is new at
+
   -- a retiring operation was there before
   retired_was : (v : ℕ) (g : MachineFlight) (o : Owner) → g.retires ≡ Some o → IsPut w v (Some f) b.flights (Some g) → b.flights v ≡ Some g
   retired_was v g o h (New same e) = absurd (no_retire f.retires o starts.none (ap (λ (z : MachineFlight). z.retires) (same_Some f g e) ∙ h))
@@ -130,6 +138,7 @@ module _ (plan : Ports) (tables : TableLaws plan) (m : Machine) (sound : IsConsi
     fit = λ k r row. fit_by k r (row_was k r row);
     named = λ k p r row h. named_by k p r h (row_was k r row);
     goes = λ v g at. goes_by v g (by v g at);
+    inside = λ n ip len v u is at. inside_by n ip len v u at (row_was (key.Addr n ip len) (row.Addr v) is);
     leaves = λ v g o at h. leaves_by v g o h (by v g at);
     left = λ v g o at h. sound.board.left v g o (retired_was v g o h (by v g at)) h;
     unused = λ v g k o at h user. unused_by v g k o (retired_was v g o h (by v g at)) h (user_was k o user);
@@ -166,7 +175,7 @@ module _ (plan : Ports) (tables : TableLaws plan) (m : Machine) (sound : IsConsi
   quiet_by v g k o t (Old other there) (inr (is, mine)) = absurd ((starts.free o mine v g there).0 (subst (λ d. HasChangeOf plan d o) (due_old v other) t))
 
   -- keys have their good rows as before, and this one is brought there
-  pub current-started : (good : TypedRows) (k : Key) → f.new ≡ good f.key → IsCurrent b good k ⊎ (k ≡ f.key) → IsCurrent b' good k
+  pub current-started : (good : TypedRows) (k : Key) → option_map bare f.new ≡ good f.key → IsCurrent b good k ⊎ (k ≡ f.key) → IsCurrent b' good k
   current-started good k new (inr same) = inr (w, f, here, sym same, new ∙ ap good (sym same))
   current-started good k new (inl (inr (v, g, at, is, that))) = inr (v, g, still v g at, is, that)
   current-started good k new (inl (inl (rests, that))) = of (key_split f.key k)

@@ -7,12 +7,10 @@ use Rattle.swss_types.specs.declared.interface.IfName.TheVariants as on
 use Rattle.swss_types.specs.declared.vrf.Vrf.{Vrf}
 use Rattle.swss_types.specs.declared.vrf.Vrf.TheVariants as vrf
 use Rattle.swss_types.proofs.Proper.{mapped}
-use Rattle.table_schema.specs.Names.{names_of, names_of_route, router_names}
+use Rattle.table_schema.specs.Names.{base_names, router_names}
 use Rattle.table_schema.specs.Plan.{Ports, IsPlan}
 use Rattle.table_schema.specs.declared.key.Key.{Key}
 use Rattle.table_schema.specs.declared.key.Key.TheVariants as key
-use Rattle.table_schema.specs.declared.row.Row.{Row}
-use Rattle.table_schema.specs.declared.row.Row.TheVariants as row
 use Rattle.table_schema.specs.declared.row.RouteRow.{RouteRow}
 use Rattle.table_schema.specs.declared.row.RouteRow.TheVariants as route
 use Rattle.table_schema.specs.declared.row_hop.RowHop.{RowHop}
@@ -28,6 +26,8 @@ use Rattle.sai_types.specs.Named.{first_lane}
 use Rattle.sai_types.specs.Names as name
 use Rattle.sai_types.specs.Names.{ThingName, Refers, base_name, goal_names, name_of, with_router}
 use Rattle.sai_types.proofs.Membership.{in-left, in-right}
+use Rattle.switch_model.specs.Placed as row
+use Rattle.switch_model.specs.Placed.{Placed as Row, placed_names as names_of, placed_route_names as names_of_route}
 use Rattle.switch_model.specs.Things.{base_of, hops_of, lane_of, members_of}
 use Rattle.row_layout.specs.Rows as owner
 use Rattle.row_layout.specs.Rows.{IsPlanned, Owner, from, goal_to, goal_of, own_things}
@@ -79,10 +79,10 @@ pub member_hop : (all hops : List WHop) (hop : WHop) → IsIn (thing.GroupMember
 member_hop all hops hop h = let x = member_of all hops (thing.GroupMember all hop) h in let same : x.0 ≡ hop = cc in subst (λ z. IsIn z hops) same x.1
 
 -- what an address row uses is its own address
-pub address_use : (plan : Ports) (i : IfName) (ip : Ip) (o : Owner) → IsIn o (address_uses plan i ip) → o ≡ owner.Own vrf.Default ip
-address_use plan (on.Ethernet port) ip o h = only (λ o. o ≡ owner.Own vrf.Default ip) o (owner.Own vrf.Default ip) refl (from_in (lane_of plan port) _ o h).2
-address_use plan (on.Vlan v) ip o h = only (λ o. o ≡ owner.Own vrf.Default ip) o (owner.Own vrf.Default ip) refl h
-address_use plan (on.Loopback n) ip o h = only (λ o. o ≡ owner.Own vrf.Default ip) o (owner.Own vrf.Default ip) refl h
+pub address_use : (plan : Ports) (i : IfName) (v : Vrf) (ip : Ip) (o : Owner) → IsIn o (address_uses plan i v ip) → o ≡ owner.Own v ip
+address_use plan (on.Ethernet port) v ip o h = only (λ o. o ≡ owner.Own v ip) o (owner.Own v ip) refl (from_in (lane_of plan port) _ o h).2
+address_use plan (on.Vlan n) v ip o h = only (λ o. o ≡ owner.Own v ip) o (owner.Own v ip) refl h
+address_use plan (on.Loopback n) v ip o h = only (λ o. o ≡ owner.Own v ip) o (owner.Own v ip) refl h
 
 module _ (plan : Ports) (is : IsPlan plan) where
   names_by : (k : Key) (r : Row) (n : ThingName) → Fits plan k r → IsIn n (own_names plan k) → Gives (own_things plan k r) n
@@ -98,10 +98,10 @@ module _ (plan : Ports) (is : IsPlan plan) where
   names_by (key.Vlan v) row.Vlan n fit (inr h) = elim h [ ]
   names_by (key.Vrf label) row.Vrf n fit (inl e) = (thing.VirtualRouter label, inl refl, sym e)
   names_by (key.Vrf label) row.Vrf n fit (inr h) = elim h [ ]
-  names_by (key.Intf i) row.Intf n fit h = gives_from (base_of plan i) (λ b. name.Rif b ∷ []) (λ b. thing.Rif b vrf.Default ∷ []) n each h
+  names_by (key.Intf i) (row.Intf v) n fit h = gives_from (base_of plan i) (λ b. name.Rif b ∷ []) (λ b. thing.Rif b v ∷ []) n each h
     where
-      each : (b : Base) → IsIn n (name.Rif b ∷ []) → Gives (thing.Rif b vrf.Default ∷ []) n
-      each b (inl e) = (thing.Rif b vrf.Default, inl refl, sym e)
+      each : (b : Base) → IsIn n (name.Rif b ∷ []) → Gives (thing.Rif b v ∷ []) n
+      each b (inl e) = (thing.Rif b v, inl refl, sym e)
       each b (inr h) = elim h [ ]
   names_by (key.Neigh i ip) (row.Neigh mac) n fit h =
       gives_from (base_of plan i) _ (λ b. thing.Neighbor (record { on = b; ip = ip }) mac ∷ thing.NextHop (record { on = b; ip = ip }) ∷ []) n
@@ -130,7 +130,7 @@ module _ (plan : Ports) (is : IsPlan plan) where
 
   pub are_shared_by : (k : Key) (r : Row) (o : Owner) → IsIn o (uses plan k r) → IsShared o
   are_shared_by (key.Member v p) (row.Member t) o h = let m = from_in (lane_of plan p) _ o h in only IsShared o (owner.Bridge m.0) tt m.2
-  are_shared_by (key.Addr i ip len) row.Addr o h = subst IsShared (sym (address_use plan i ip o h)) tt
+  are_shared_by (key.Addr i ip len) (row.Addr v) o h = subst IsShared (sym (address_use plan i v ip o h)) tt
   are_shared_by (key.Route v prefix) (row.Route (route.Hops hops)) o h = let x = group_use o (hops_of plan hops) h in subst IsShared (sym x.2) tt
   are_shared_by (key.Route v prefix) (row.Route route.Drop) o h = elim h [ ]
   are_shared_by (key.Route v prefix) (row.Route (route.Direct i)) o h = elim h [ ]
@@ -154,10 +154,10 @@ module _ (plan : Ports) (is : IsPlan plan) where
   router_leads k r vrf.Default f n h = elim h [ ]
   router_leads k r (vrf.Named label) f n h = only (IsNamed plan k r) n (name.VirtualRouter label) (record { by = key.Vrf label; named = f (key.Vrf label) (inl refl); own = inl refl }) h
 
-  intf_leads : (i : IfName) (r : Row) (b : Base) → base_of plan i ≡ Some b → IsNamed plan (key.Intf i) r (base_name b)
-  intf_leads (on.Ethernet p) r b at = let m = mapped base.Port (lane_of plan p) b at in subst (λ z. IsNamed plan (key.Intf (on.Ethernet p)) r (base_name z)) m.2 (port_named_by (key.Intf (on.Ethernet p)) r p m.0 m.1 (inl refl))
-  intf_leads (on.Vlan v) r b at = let e : base.Vlan v ≡ b = cc in subst (λ z. IsNamed plan (key.Intf (on.Vlan v)) r (base_name z)) e (record { by = key.Vlan v; named = inl refl; own = inl refl })
-  intf_leads (on.Loopback l) r b at = absurd cc
+  intf_leads : (i : IfName) (v : Vrf) (b : Base) → base_of plan i ≡ Some b → IsNamed plan (key.Intf i) (row.Intf v) (base_name b)
+  intf_leads (on.Ethernet p) v b at = let m = mapped base.Port (lane_of plan p) b at in subst (λ z. IsNamed plan (key.Intf (on.Ethernet p)) (row.Intf v) (base_name z)) m.2 (port_named_by (key.Intf (on.Ethernet p)) (row.Intf v) p m.0 m.1 (inl refl))
+  intf_leads (on.Vlan n) v b at = let e : base.Vlan n ≡ b = cc in subst (λ z. IsNamed plan (key.Intf (on.Vlan n)) (row.Intf v) (base_name z)) e (record { by = key.Vlan n; named = inl refl; own = inl refl })
+  intf_leads (on.Loopback l) v b at = absurd cc
 
   -- a hop of a route is of a neighbour that the route names
   hop_leads : (v : Vrf) (prefix : Prefix) (hops : List (RowHop × ℕ)) (group : List WHop) (hop : WHop) → hops_of plan hops ≡ Some group → IsIn hop group → IsNamed plan (key.Route v prefix) (row.Route (route.Hops hops)) (name.NextHop hop.hop)
@@ -215,9 +215,13 @@ module _ (plan : Ports) (is : IsPlan plan) where
           two (Leads (key.Member v p) (row.Member tagging) (thing.VlanMember v lane tagging)) n (name.Vlan v) (name.BridgePort lane)
           (inl (record { by = key.Vlan v; named = inl refl; own = inl refl }))
           (inr (inr (owner.Bridge lane, refl, in_from (lane_of plan p) (λ l. owner.Bridge l ∷ []) lane (owner.Bridge lane) at (inl refl), (thing.BridgePort lane, inl refl, refl)))) e
-  own_refers_by (key.Intf i) row.Intf t fit h =
+  own_refers_by (key.Intf i) (row.Intf v) t fit h =
       let m = from_in (base_of plan i) _ t h in
-      only (LeadAll (key.Intf i) row.Intf) t (thing.Rif m.0 vrf.Default) (λ n e. only (Leads (key.Intf i) row.Intf (thing.Rif m.0 vrf.Default)) n (base_name m.0) (inl (intf_leads i row.Intf m.0 m.1)) e) m.2
+      only (LeadAll (key.Intf i) (row.Intf v)) t (thing.Rif m.0 v) (λ n e. rif_leads m.0 m.1 n (beside_router v (base_name m.0 ∷ []) n e)) m.2
+    where
+      rif_leads : (b : Base) → base_of plan i ≡ Some b → (n : ThingName) → IsIn n (with_router v []) ⊎ IsIn n (base_name b ∷ []) → Leads (key.Intf i) (row.Intf v) (thing.Rif b v) n
+      rif_leads b at n (inl e) = inl (router_leads (key.Intf i) (row.Intf v) v (λ p j. in-right p (base_names i) (router_names v) j) n e)
+      rif_leads b at n (inr e) = only (Leads (key.Intf i) (row.Intf v) (thing.Rif b v)) n (base_name b) (inl (intf_leads i v b at)) e
   own_refers_by (key.Neigh i ip) (row.Neigh mac) t fit h = let m = from_in (base_of plan i) _ t h in two (LeadAll (key.Neigh i ip) (row.Neigh mac)) t (thing.Neighbor (record { on = m.0; ip = ip }) mac) (thing.NextHop (record { on = m.0; ip = ip })) (neighbor m.0 m.1) (next_hop m.0 m.1) m.2
     where
       rif : (t : Thing) (b : Base) → base_of plan i ≡ Some b → Leads (key.Neigh i ip) (row.Neigh mac) t (name.Rif b)
@@ -251,10 +255,10 @@ module _ (plan : Ports) (is : IsPlan plan) where
     where
       bridge : (lane : ℕ) → lane_of plan p ≡ Some lane → SharedLeadAll (key.Member v p) (row.Member t) (owner.Bridge lane) (thing.BridgePort lane)
       bridge lane at n e = only (SharedLeads (key.Member v p) (row.Member t) (owner.Bridge lane) (thing.BridgePort lane)) n (name.Port lane) (inl (port_named_by (key.Member v p) (row.Member t) p lane at (inr (inl refl)))) e
-  shared_refers_by (key.Addr i ip len) row.Addr o u fit h in_it =
-      let same = address_use plan i ip o h in
-      subst (λ o. SharedLeadAll (key.Addr i ip len) row.Addr o u) (sym same)
-      (only (SharedLeadAll (key.Addr i ip len) row.Addr (owner.Own vrf.Default ip)) u (thing.Own vrf.Default ip) (λ n e. elim e [ ]) (subst (λ o. IsIn u (shared_things o)) same in_it))
+  shared_refers_by (key.Addr i ip len) (row.Addr v) o u fit h in_it =
+      let same = address_use plan i v ip o h in
+      subst (λ o. SharedLeadAll (key.Addr i ip len) (row.Addr v) o u) (sym same)
+      (only (SharedLeadAll (key.Addr i ip len) (row.Addr v) (owner.Own v ip)) u (thing.Own v ip) (λ n e. inl (router_leads (key.Addr i ip len) (row.Addr v) v (λ p j. inr j) n e)) (subst (λ o. IsIn u (shared_things o)) same in_it))
   shared_refers_by (key.Route v prefix) (row.Route (route.Hops hops)) o u fit h in_it =
       let x = group_use o (hops_of plan hops) h in
       subst (λ o. SharedLeadAll (key.Route v prefix) (row.Route (route.Hops hops)) o u) (sym x.2) (group x.0 x.1 (subst (λ o. IsIn u (shared_things o)) x.2 in_it))

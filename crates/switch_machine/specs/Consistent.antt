@@ -1,11 +1,15 @@
 -- What holds of the machine between events. Own.
-use Rattle.std.specs.Prelude.{◌≡◌, ◌⊎◌, ℕ, Some, None}
+use Rattle.std.specs.Prelude.{◌≡◌, ◌⊎◌, ℕ, Some, None, option_map}
+use Rattle.swss_types.specs.declared.address.Ip.{Ip}
+use Rattle.swss_types.specs.declared.interface.IfName.{IfName}
+use Rattle.swss_types.specs.declared.vrf.Vrf.{Vrf}
 use Rattle.table_schema.specs.Plan.{Ports}
-use Rattle.table_schema.specs.Names.{names_of}
 use Rattle.table_schema.specs.declared.key.Key.{Key}
-use Rattle.table_schema.specs.declared.row.Row.{Row}
+use Rattle.table_schema.specs.declared.key.Key.TheVariants as key
 use Rattle.sai_types.specs.declared.thing.Thing.{Thing}
 use Rattle.sai_types.specs.Alike.{IsIn}
+use Rattle.switch_model.specs.Placed as row
+use Rattle.switch_model.specs.Placed.{Placed as Row, PlacedRows, bare, placed_names as names_of}
 use Rattle.switch_model.specs.Good.{TypedRows}
 use Rattle.sai_types.specs.Names.{ThingName, Refers, name_of}
 use Rattle.row_layout.specs.Rows.{Owner, OfRow, own_things}
@@ -15,7 +19,7 @@ use Rattle.switch_machine.specs.Flights.{MachineBoard, Fits, MachineFlight, HasN
 use Rattle.row_layout.specs.Operations.{uses_of}
 
 -- an owner that a flight's key shared before
-pub record WasUsed (plan : Ports) (applied : TypedRows) (k : Key) (o : Owner) : Type 0 where
+pub record WasUsed (plan : Ports) (applied : PlacedRows) (k : Key) (o : Owner) : Type 0 where
   pub row : Row
   pub was : applied k ≡ Some row
   pub used : IsIn o (uses plan k row)
@@ -28,6 +32,8 @@ pub record IsOrderly (plan : Ports) (b : MachineBoard) : Type 0 where
   pub named : (k p : Key) (r : Row) → IsRow b k r → IsIn p (names_of k r) → IsFirm b p
   -- an operation tells whether its applied row goes
   pub goes : (w : ℕ) (f : MachineFlight) → b.flights w ≡ Some f → f.goes ≡ goes_over f.key (b.applied f.key) f.new
+  -- an address is in the router of its interface
+  pub inside : (n : IfName) (ip : Ip) (len : ℕ) (v w : Vrf) → IsRow b (key.Addr n ip len) (row.Addr v) → b.applied (key.Intf n) ≡ Some (row.Intf w) → v ≡ w
   -- what an operation has to leave, and what it retires, its applied row shared
   pub leaves : (w : ℕ) (f : MachineFlight) (o : Owner) → b.flights w ≡ Some f → f.leaves ≡ Some o → WasUsed plan b.applied f.key o × (IsIn o (uses_of plan f.key f.new) → ⊥) × (f.retires ≡ None)
   pub left : (w : ℕ) (f : MachineFlight) (o : Owner) → b.flights w ≡ Some f → f.retires ≡ Some o → WasUsed plan b.applied f.key o
@@ -71,4 +77,4 @@ pub record IsConsistent (plan : Ports) (m : Machine) : Type 0 where
 
 -- a key has its good row, or an operation brings it there
 abbrev pub IsCurrent : MachineBoard → TypedRows → Key → Type 0
-IsCurrent b good k = (IsResting b k × (b.applied k ≡ good k)) ⊎ ((w : ℕ) × (f : MachineFlight) × (b.flights w ≡ Some f) × (f.key ≡ k) × (f.new ≡ good k))
+IsCurrent b good k = (IsResting b k × (option_map bare (b.applied k) ≡ good k)) ⊎ ((w : ℕ) × (f : MachineFlight) × (b.flights w ≡ Some f) × (f.key ≡ k) × (option_map bare f.new ≡ good k))

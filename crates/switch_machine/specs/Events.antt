@@ -1,8 +1,7 @@
 -- The core with its chip, and its events. Own.
-use Rattle.std.specs.Prelude.{◌≡◌, ◌⊎◌, ◌+◌, ◌<◌, ◌∷◌, ℕ, true, List, [], Option, Some, None}
+use Rattle.std.specs.Prelude.{◌≡◌, ◌⊎◌, ◌+◌, ◌<◌, ◌∷◌, ℕ, true, List, [], Option, Some, None, option_map}
 use Rattle.table_schema.specs.Plan.{Ports}
 use Rattle.table_schema.specs.declared.key.Key.{Key}
-use Rattle.table_schema.specs.declared.row.Row.{Row}
 use Rattle.sai_types.specs.declared.ids.Rid.{Rid}
 use Rattle.sai_types.specs.declared.body.Call.{Call}
 use Rattle.sai_types.specs.declared.thing.Thing.{Thing}
@@ -13,10 +12,11 @@ use Rattle.sai_types.specs.Objects.{Objects}
 use Rattle.table_schema.specs.declared.write.Write.{Write}
 use Rattle.switch_machine.specs.Written.{HasNoWrite, HasWrittenRows, IsAsBefore, IsGoodOnce, IsPoppedKey, IsTold, TakesWrite, Written, good_of}
 use Rattle.chip_layout.specs.Layout.{IsLaidOut, Layout, has_number, listed, next_rid}
+use Rattle.switch_model.specs.Placed.{Placed as Row, bare, bare_rows, place, router_in}
 use Rattle.row_layout.specs.Rows.{Owner}
 use Rattle.row_layout.specs.Operations.{Change, Make, Set, Take, shared_going, take_all}
 use Rattle.switch_machine.specs.Changes.{IsCall, changed_by}
-use Rattle.switch_machine.specs.Flights.{MachineFlight, IsResting, IsRow, Machine}
+use Rattle.switch_machine.specs.Flights.{MachineBoard, MachineFlight, IsResting, IsRow, Machine}
 use Rattle.switch_machine.specs.Steps.{Ends, LeavesOthers, finished, left, moved, parted, started}
 use Rattle.switch_machine.specs.Operations.{MayBegin, IsLast}
 use Rattle.switch_machine.specs.Places.{AreCovered, HasPlaces, HasRoomFor}
@@ -66,7 +66,7 @@ pub record HasLeft (k : Key) (to_sync later : List Key) : Type 0 where
 pub record IsDrop (plan : Ports) (s t : SwitchState) : Type 0 where
   pub key : Key
   pub rests : IsResting s.machine.board key
-  pub same : s.machine.board.applied key ≡ good_of plan s.written key
+  pub same : option_map bare (s.machine.board.applied key) ≡ good_of plan s.written key
   pub machine : t.machine ≡ s.machine
   pub written : t.written ≡ s.written
   pub made : t.made ≡ s.made
@@ -80,13 +80,17 @@ pub data Follows (plan : Ports) (w : ℕ) (m : Machine) : Machine → Type 0 whe
   Left : (f : MachineFlight) (o : Owner) → LeavesOthers plan m w f o → Follows plan w m (finished (left m w f f.retires []) w (parted f f.retires))
   Retires : (f : MachineFlight) (o : Owner) → IsLast plan m w f o → Follows plan w m (left m w f (Some o) (take_all (shared_going o) []))
 
+-- the good row of a key in its place: an address in the router of its interface's applied row
+abbrev pub placed_good : Ports → MachineBoard → Written → Key → Option Row
+placed_good plan b written k = option_map (place (router_in (bare_rows b.applied) k)) (good_of plan written k)
+
 -- an operation begins
 pub record IsBegin (plan : Ports) (workers : ℕ) (capacities : List ℕ) (s t : SwitchState) : Type 0 where
   pub worker : ℕ
   pub below : worker < workers
   pub flight : MachineFlight
   pub due : List Change
-  pub new : flight.new ≡ good_of plan s.written flight.key
+  pub new : flight.new ≡ placed_good plan s.machine.board s.written flight.key
   pub begins : MayBegin plan s.machine worker flight due
   pub room : HasRoomFor workers capacities s.objects s.machine due
   pub follows : Follows plan worker (started s.machine worker flight due) t.machine
@@ -176,7 +180,7 @@ pub record IsSafe (plan : Ports) (workers : ℕ) (capacities : List ℕ) (s : Sw
   pub covered : AreCovered s.machine
   -- each row of the tables is one that was written, and each row that is applied or to be applied was good once
   pub dated : HasWrittenRows s.written
-  pub good : (k : Key) (r : Row) → IsRow s.machine.board k r → IsGoodOnce plan s.written.taken k r
+  pub good : (k : Key) (r : Row) → IsRow s.machine.board k r → IsGoodOnce plan s.written.taken k (bare r)
 
 -- no operation is under way
 abbrev pub IsQuiet : SwitchState → Type 0

@@ -1,17 +1,17 @@
 -- The rows that are applied, the operations that are under way, and what stands. Own.
-use Rattle.std.specs.Prelude.{◌≡◌, ◌⊎◌, ◌==◌, ◌∷◌, ℕ, Bool, true, false, List, [], Option, Some, None, if◌then◌else◌}
+use Rattle.std.specs.Prelude.{◌≡◌, ◌⊎◌, ◌==◌, ◌∷◌, ℕ, Bool, true, false, not, List, [], Option, Some, None, if◌then◌else◌}
+use Rattle.swss_types.specs.Address.{IsProperPrefix}
+use Rattle.swss_types.specs.Vrf.{same_vrf}
 use Rattle.table_schema.specs.Plan.{Ports, lanes_in_plan}
 use Rattle.table_schema.specs.declared.key.Key.{Key}
 use Rattle.table_schema.specs.declared.key.Key.TheVariants as key
-use Rattle.table_schema.specs.declared.row.Row.{Row}
-use Rattle.table_schema.specs.declared.row.Row.TheVariants as row
 use Rattle.sai_types.specs.declared.ids.Rid.{Rid}
-use Rattle.swss_types.specs.Address.{IsProperPrefix}
 use Rattle.sai_types.specs.declared.hop.Base.{Base}
 use Rattle.sai_types.specs.declared.thing.Goal.{Goal}
 use Rattle.sai_types.specs.declared.thing.Thing.{Thing}
 use Rattle.sai_types.specs.Alike.{IsIn}
-use Rattle.switch_model.specs.Good.{TypedRows}
+use Rattle.switch_model.specs.Placed as row
+use Rattle.switch_model.specs.Placed.{Placed as Row, PlacedRows}
 use Rattle.switch_model.specs.Things.{base_of, lane_of}
 use Rattle.sai_types.specs.Names.{ThingName, Refers, name_of}
 use Rattle.sai_types.specs.Names as name
@@ -20,10 +20,11 @@ use Rattle.row_layout.specs.Operations.{Change, Make, Set, Take, uses_of}
 use Rattle.row_layout.specs.Shared.{shared_things}
 use Rattle.switch_machine.specs.Changes.{IsSettable, Resembles, after, changed_name}
 
--- whether the applied row of a key goes: the key has no new row
+-- whether the applied row of a key goes: the key has no new row, or is an interface that goes over to another router
 abbrev pub goes_over : Key → Option Row → Option Row → Bool
 goes_over k old None = true
-goes_over k old (Some new) = false
+goes_over (key.Intf n) (Some (row.Intf v)) (Some (row.Intf w)) = not (same_vrf v w)
+goes_over _ _ _ = false
 
 -- an operation of a worker: its key, the row that the key is to have, what it shared before and has still to leave, and what it retires because it left it last
 pub record MachineFlight : Type 0 where
@@ -31,12 +32,12 @@ pub record MachineFlight : Type 0 where
   pub new : Option Row
   pub leaves : Option Owner
   pub retires : Option Owner
-  -- whether its applied row goes: there is no new one
+  -- whether its applied row goes: there is no new one, or it is in another router
   pub goes : Bool
 
 -- the applied rows, and the operation of each worker
 pub record MachineBoard : Type 0 where
-  pub applied : TypedRows
+  pub applied : PlacedRows
   pub flights : ℕ → Option MachineFlight
 
 -- with the changes that are due for each worker, those for which it keeps places, and what stands, with identifiers
@@ -76,8 +77,8 @@ Fits plan (key.Port port) (row.Port r) = lanes_in_plan plan port ≡ Some r.lane
 Fits plan (key.Vlan vlan) row.Vlan = Unit {0}
 Fits plan (key.Vrf label) row.Vrf = Unit {0}
 Fits plan (key.Member vlan port) (row.Member tagging) = (lane : ℕ) × (lane_of plan port ≡ Some lane)
-Fits plan (key.Intf n) row.Intf = Unit {0}
-Fits plan (key.Addr n ip len) row.Addr = Unit {0}
+Fits plan (key.Intf n) (row.Intf v) = Unit {0}
+Fits plan (key.Addr n ip len) (row.Addr v) = Unit {0}
 Fits plan (key.Neigh n ip) (row.Neigh mac) = (b : Base) × (base_of plan n ≡ Some b)
 Fits plan (key.Route v prefix) (row.Route r) = IsProperPrefix prefix × ((g : Goal) × (goal_of plan r ≡ Some g))
 Fits plan _ _ = ⊥

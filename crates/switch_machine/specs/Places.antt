@@ -1,5 +1,5 @@
 -- Places on the chip. Own.
-use Rattle.std.specs.Prelude.{◌≡◌, ◌+◌, ◌≤◌, ◌<◌, ◌==◌, ◌∷◌, ℕ, zero, suc, cond, List, [], None}
+use Rattle.std.specs.Prelude.{◌≡◌, ◌+◌, ◌-◌, ◌≤◌, max, ◌<◌, ◌==◌, ◌∷◌, ℕ, zero, suc, cond, List, [], None}
 use Rattle.sai_types.specs.declared.kind.Kind.{Kind}
 use Rattle.sai_types.specs.Objects.{Objects, level, used}
 use Rattle.sai_types.specs.Refusal.{capacity_of}
@@ -7,12 +7,12 @@ use Rattle.sai_types.specs.Names.{name_kind, name_of}
 use Rattle.row_layout.specs.Operations.{Change, Make, Set, Take}
 use Rattle.switch_machine.specs.Flights.{Machine}
 
--- how many objects of a kind the changes make
+-- how many places of a kind the changes need: what goes leaves its place to what is made behind it
 abbrev pub makes : Kind → List Change → ℕ
 makes kind [] = 0
 makes kind (Make t ∷ cs) = cond (level (name_kind (name_of t)) == level kind) 1 0 + makes kind cs
 makes kind (Set t ∷ cs) = makes kind cs
-makes kind (Take n ∷ cs) = makes kind cs
+makes kind (Take n ∷ cs) = makes kind cs - cond (level (name_kind n) == level kind) 1 0
 
 abbrev pub sum_below : ℕ → (ℕ → ℕ) → ℕ
 sum_below zero f = 0
@@ -26,13 +26,13 @@ missing workers m kind = sum_below workers (λ w. makes kind (m.due w))
 abbrev pub HasPlaces : ℕ → List ℕ → Objects → Machine → Type 0
 HasPlaces workers capacities objects m = (kind : Kind) → used objects kind + missing workers m kind ≤ capacity_of capacities kind
 
--- the places that workers keep, be the objects made or not
+-- the places that workers keep: those that an operation needed when it began, be its objects made or not, and the one of an interface that has gone and is to be made in another router
 abbrev pub places_kept : ℕ → Machine → Kind → ℕ
-places_kept workers m kind = sum_below workers (λ w. makes kind (m.reserved w))
+places_kept workers m kind = sum_below workers (λ w. max (makes kind (m.reserved w)) (makes kind (m.due w)))
 
--- a worker keeps places for all that it has still to make, and none without an operation
+-- a worker without an operation has nothing due and keeps no places
 pub record AreCovered (m : Machine) : Type 0 where
-  pub due : (w : ℕ) (kind : Kind) → makes kind (m.due w) ≤ makes kind (m.reserved w)
+  pub due : (w : ℕ) → m.board.flights w ≡ None → m.due w ≡ []
   pub idle : (w : ℕ) → m.board.flights w ≡ None → m.reserved w ≡ []
 
 -- there is room for the changes of an operation that begins

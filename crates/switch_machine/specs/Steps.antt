@@ -1,22 +1,25 @@
 -- The events of the machine, in their smallest steps. Own.
 use Rattle.std.specs.Prelude.{◌≡◌, ◌∷◌, ℕ, true, List, [], Option, Some, None, if◌then◌else◌}
 use Rattle.std.specs.BTreeMap.{is_at}
+use Rattle.swss_types.specs.declared.address.Ip.{Ip}
+use Rattle.swss_types.specs.declared.interface.IfName.{IfName}
+use Rattle.swss_types.specs.declared.vrf.Vrf.{Vrf}
 use Rattle.table_schema.specs.Key.{key_cmp}
 use Rattle.table_schema.specs.Plan.{Ports}
-use Rattle.table_schema.specs.Names.{names_of}
 use Rattle.table_schema.specs.declared.key.Key.{Key}
-use Rattle.table_schema.specs.declared.row.Row.{Row}
+use Rattle.table_schema.specs.declared.key.Key.TheVariants as key
 use Rattle.sai_types.specs.declared.ids.Rid.{Rid}
 use Rattle.sai_types.specs.declared.thing.Thing.{Thing}
 use Rattle.sai_types.specs.Alike.{IsIn}
-use Rattle.switch_model.specs.Good.{TypedRows}
+use Rattle.switch_model.specs.Placed as row
+use Rattle.switch_model.specs.Placed.{Placed as Row, PlacedRows, placed_names as names_of}
 use Rattle.row_layout.specs.Rows.{Owner}
 use Rattle.row_layout.specs.Operations.{Change, uses_of}
 use Rattle.switch_machine.specs.Changes.{after}
 use Rattle.switch_machine.specs.Flights.{CountsAsUser, Fits, MachineFlight, IsFirm, IsResting, IsRow, HasChangeOf, IsUser, Machine, Runs, StandsIn, goes_over, put}
 
 -- the rows with another one of a key, or none
-abbrev pub with_row : Key → Option Row → TypedRows → TypedRows
+abbrev pub with_row : {X : Type 0} → Key → Option X → (Key → Option X) → Key → Option X
 with_row k o rows q = if is_at (key_cmp k) q then o else rows q
 
 -- ---- an operation starts
@@ -28,6 +31,7 @@ pub record Starts (plan : Ports) (m : Machine) (w : ℕ) (f : MachineFlight) (du
   -- nothing is missing
   pub named : (p : Key) (r : Row) → f.new ≡ Some r → IsIn p (names_of f.key r) → IsFirm m.board p
   pub goes : f.goes ≡ goes_over f.key (m.board.applied f.key) f.new
+  pub inside : (n : IfName) (ip : Ip) (len : ℕ) (v w : Vrf) → f.key ≡ key.Addr n ip len → f.new ≡ Some (row.Addr v) → m.board.applied (key.Intf n) ≡ Some (row.Intf w) → v ≡ w
   -- nothing holds a row that is to go
   pub unnamed : f.goes ≡ true → (k : Key) (r : Row) → IsRow m.board k r → IsIn f.key (names_of k r) → ⊥
   -- nobody builds or retires what the new row shares

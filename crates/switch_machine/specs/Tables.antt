@@ -1,13 +1,12 @@
 -- What the events need to know of each table's rows, with no table in sight. Own.
 use Rattle.std.specs.Prelude.{◌≡◌, ◌⊎◌, ◌∷◌, List, []}
 use Rattle.table_schema.specs.Plan.{Ports}
-use Rattle.table_schema.specs.Names.{names_of}
 use Rattle.table_schema.specs.declared.key.Key.{Key}
-use Rattle.table_schema.specs.declared.row.Row.{Row}
 use Rattle.sai_types.specs.declared.thing.Thing.{Thing}
 use Rattle.sai_types.specs.Alike.{IsIn}
 use Rattle.sai_types.specs.Names.{ThingName, Refers, name_of}
 use Rattle.chip_layout.specs.Answered.{AreSame}
+use Rattle.switch_model.specs.Placed.{Placed as Row, placed_names as names_of}
 use Rattle.row_layout.specs.Operations.{going, shared_going}
 use Rattle.row_layout.specs.Rows.{Owner, OfRow, own_things}
 use Rattle.row_layout.specs.Shared.{shared_things, uses}

@@ -7,7 +7,7 @@ ghost use Rattle.swss_types.specs.declared.address.Prefix.{Prefix};
 ghost use Rattle.table_schema.specs.Plan.{Ports, IsPlan};
 ghost use Rattle.table_schema.specs.declared.key.Key.{Key};
 ghost use Rattle.table_schema.specs.declared.key.Key.TheVariants as key;
-ghost use Rattle.table_schema.specs.declared.row.Row.{Row};
+ghost use Rattle.switch_model.specs.Placed.{Placed as Row, bare, bare_rows};
 ghost use Rattle.table_schema.specs.declared.write.Sent.{Sent};
 ghost use Rattle.sai_types.specs.declared.ids.Rid.{Rid};
 ghost use Rattle.sai_types.specs.declared.body.Call.{Call};
@@ -32,7 +32,7 @@ ghost use Rattle.switch_model.specs.Things.{things_of};
 ghost use Rattle.row_layout.specs.Operations.{Change, changes_of};
 ghost use Rattle.row_layout.specs.Rows.{Owner, own_things};
 ghost use Rattle.switch_machine.specs.Changes.{Disturbs};
-ghost use Rattle.switch_machine.specs.Events.{AreAnswers, AreEvents, IsAnswer, IsBegin, IsDrop, IsDueCall, IsEvent, IsQuiet, IsSafe, SwitchState, after_answers, after_events, calls_of, changes_made, empty_switch, fresh_view};
+ghost use Rattle.switch_machine.specs.Events.{AreAnswers, AreEvents, IsAnswer, IsBegin, IsDrop, IsDueCall, IsEvent, IsQuiet, IsSafe, SwitchState, after_answers, after_events, calls_of, changes_made, empty_switch, fresh_view, placed_good};
 ghost use Rattle.switch_machine.specs.Flights.{Fits, MachineFlight, IsResting, IsRow, StandsIn};
 ghost use Rattle.switch_machine.specs.Bearing.{BearsOnce, SwitchesOnce, standing_things};
 ghost use Rattle.switch_machine.specs.Next.{MustWait, IsIdle, IsNextEvent};
@@ -61,30 +61,30 @@ pub fn calls_are_legal()
 /// While no operation is under way the chip is alike to the things of the applied rows, and each key that is not to sync has
 /// its good row. The applied rows name only applied rows, always.
 pub fn rest_is_alike()
-    ensures alike { (plan : Ports) (workers : ℕ) (capacities : List ℕ) (s : SwitchState) → IsPlan plan → IsSafe plan workers capacities s → IsQuiet s → IsAlike s.objects (IsThingOf plan s.machine.board.applied) }
-    ensures good { (plan : Ports) (workers : ℕ) (capacities : List ℕ) (s : SwitchState) (k : Key) → IsPlan plan → IsSafe plan workers capacities s → IsQuiet s → (IsIn k s.to_sync → ⊥) → s.machine.board.applied k ≡ good_of plan s.written k }
-    ensures closed { (plan : Ports) (workers : ℕ) (capacities : List ℕ) (s : SwitchState) → IsPlan plan → IsSafe plan workers capacities s → IsClosed s.machine.board.applied }
+    ensures alike { (plan : Ports) (workers : ℕ) (capacities : List ℕ) (s : SwitchState) → IsPlan plan → IsSafe plan workers capacities s → IsQuiet s → IsAlike s.objects (IsThingOf plan (bare_rows s.machine.board.applied)) }
+    ensures good { (plan : Ports) (workers : ℕ) (capacities : List ℕ) (s : SwitchState) (k : Key) → IsPlan plan → IsSafe plan workers capacities s → IsQuiet s → (IsIn k s.to_sync → ⊥) → bare_rows s.machine.board.applied k ≡ good_of plan s.written k }
+    ensures closed { (plan : Ports) (workers : ℕ) (capacities : List ℕ) (s : SwitchState) → IsPlan plan → IsSafe plan workers capacities s → IsClosed (bare_rows s.machine.board.applied) }
 {}
 
 /// A route that stands is that of a row of its virtual router and prefix, applied or to be applied, which was its good row after
 /// some number of the writes taken; and the group that it points at has a member for each of its hops.
 pub fn routes_are_whole()
     ensures rows { (plan : Ports) (workers : ℕ) (capacities : List ℕ) (s : SwitchState) (v : Vrf) (prefix : Prefix) (g : Goal) → IsPlan plan → IsSafe plan workers capacities s → StandsIn s.machine (thing.Route v prefix g) → (r : Row) × IsRow s.machine.board (key.Route v prefix) r × IsIn (thing.Route v prefix g) (own_things plan (key.Route v prefix) r) }
-    ensures written { (plan : Ports) (workers : ℕ) (capacities : List ℕ) (s : SwitchState) (v : Vrf) (prefix : Prefix) (g : Goal) → IsPlan plan → IsSafe plan workers capacities s → StandsIn s.machine (thing.Route v prefix g) → (r : Row) × IsGoodOnce plan s.written.taken (key.Route v prefix) r × IsIn (thing.Route v prefix g) (own_things plan (key.Route v prefix) r) }
+    ensures written { (plan : Ports) (workers : ℕ) (capacities : List ℕ) (s : SwitchState) (v : Vrf) (prefix : Prefix) (g : Goal) → IsPlan plan → IsSafe plan workers capacities s → StandsIn s.machine (thing.Route v prefix g) → (r : Row) × IsGoodOnce plan s.written.taken (key.Route v prefix) (bare r) × IsIn (thing.Route v prefix g) (own_things plan (key.Route v prefix) r) }
     ensures members { (plan : Ports) (workers : ℕ) (capacities : List ℕ) (s : SwitchState) (v : Vrf) (prefix : Prefix) (hops : List WHop) (hop : WHop) → IsPlan plan → IsSafe plan workers capacities s → StandsIn s.machine (thing.Route v prefix (goal.Group hops)) → IsIn hop hops → StandsIn s.machine (thing.GroupMember hops hop) }
 {}
 
 /// While no operation is under way a reason for which a key waits is true, and a kind that lacks room is the first such kind.
 pub fn reasons_are_true()
-    ensures is_true { (plan : Ports) (workers : ℕ) (capacities : List ℕ) (s : SwitchState) (k : Key) (wait : Wait) → IsPlan plan → IsSafe plan workers capacities s → IsQuiet s → IsReason plan workers capacities s k wait → IsTrueReason plan capacities (good_of plan s.written) s.machine.board.applied k wait }
-    ensures is_first { (plan : Ports) (workers : ℕ) (capacities : List ℕ) (s : SwitchState) (k : Key) (wait : Wait) → IsPlan plan → IsSafe plan workers capacities s → IsQuiet s → IsReason plan workers capacities s k wait → NamesFirstKind plan capacities (good_of plan s.written) s.machine.board.applied k wait }
+    ensures is_true { (plan : Ports) (workers : ℕ) (capacities : List ℕ) (s : SwitchState) (k : Key) (wait : Wait) → IsPlan plan → IsSafe plan workers capacities s → IsQuiet s → IsReason plan workers capacities s k wait → IsTrueReason plan capacities (good_of plan s.written) (bare_rows s.machine.board.applied) k wait }
+    ensures is_first { (plan : Ports) (workers : ℕ) (capacities : List ℕ) (s : SwitchState) (k : Key) (wait : Wait) → IsPlan plan → IsSafe plan workers capacities s → IsQuiet s → IsReason plan workers capacities s k wait → NamesFirstKind plan capacities (good_of plan s.written) (bare_rows s.machine.board.applied) k wait }
 {}
 
 /// An operation that runs alone from its beginning to its end makes the changes of its table in their order, brings its key's
 /// good row, and leaves every other row as it was.
 pub fn operation_alone()
-    ensures changes { (plan : Ports) (workers : ℕ) (capacities : List ℕ) (s t : SwitchState) (x : IsBegin plan workers capacities s t) (es : List (Call Rid × SwitchState)) (run : AreAnswers plan workers t es) (used : Owner → Bool) → IsQuiet s → IsQuiet (after_answers t es) → IsUsedByOthers plan s.machine.board.applied x.flight.key used → changes_made plan workers t es run ≡ changes_of plan x.flight.key (s.machine.board.applied x.flight.key) (good_of plan s.written x.flight.key) used }
-    ensures rows { (plan : Ports) (workers : ℕ) (capacities : List ℕ) (s t : SwitchState) (x : IsBegin plan workers capacities s t) (es : List (Call Rid × SwitchState)) → IsQuiet s → AreAnswers plan workers t es → IsQuiet (after_answers t es) → (q : Key) → (after_answers t es).machine.board.applied q ≡ with_row x.flight.key (good_of plan s.written x.flight.key) s.machine.board.applied q }
+    ensures changes { (plan : Ports) (workers : ℕ) (capacities : List ℕ) (s t : SwitchState) (x : IsBegin plan workers capacities s t) (es : List (Call Rid × SwitchState)) (run : AreAnswers plan workers t es) (used : Owner → Bool) → IsQuiet s → IsQuiet (after_answers t es) → IsUsedByOthers plan s.machine.board.applied x.flight.key used → changes_made plan workers t es run ≡ changes_of plan x.flight.key (s.machine.board.applied x.flight.key) (placed_good plan s.machine.board s.written x.flight.key) used }
+    ensures rows { (plan : Ports) (workers : ℕ) (capacities : List ℕ) (s t : SwitchState) (x : IsBegin plan workers capacities s t) (es : List (Call Rid × SwitchState)) → IsQuiet s → AreAnswers plan workers t es → IsQuiet (after_answers t es) → (q : Key) → (after_answers t es).machine.board.applied q ≡ with_row x.flight.key (placed_good plan s.machine.board s.written x.flight.key) s.machine.board.applied q }
 {}
 
 /// No call that is due, of any worker, sets or removes what stands for an applied row of a key without an operation.
@@ -126,7 +126,7 @@ pub fn needs_suffice()
 /// A key whose good row fits its table, and that no operation, no missing name, no holder and nothing in the way hinders, may
 /// begin for a worker without an operation; and there is room for what it makes, or a first kind lacks it.
 pub fn free_keys_begin()
-    ensures { (plan : Ports) (workers : ℕ) (capacities : List ℕ) (s : SwitchState) (w : ℕ) (k : Key) → IsPlan plan → IsSafe plan workers capacities s → s.machine.board.flights w ≡ None → IsRowPrepared plan s k → ((v : ℕ) → IsInTheWay plan s.machine k (good_of plan s.written k) v → ⊥) → ((r : Row) → good_of plan s.written k ≡ Some r → Fits plan k r) → (f : MachineFlight) × (due : List Change) × (f.key ≡ k) × (f.new ≡ good_of plan s.written k) × MayBegin plan s.machine w f due × (HasRoomFor workers capacities s.objects s.machine due ⊎ ((kind : Kind) × LacksRoom plan workers capacities s k kind)) }
+    ensures { (plan : Ports) (workers : ℕ) (capacities : List ℕ) (s : SwitchState) (w : ℕ) (k : Key) → IsPlan plan → IsSafe plan workers capacities s → s.machine.board.flights w ≡ None → IsRowPrepared plan s k → ((v : ℕ) → IsInTheWay plan s.machine k (placed_good plan s.machine.board s.written k) v → ⊥) → ((r : Row) → placed_good plan s.machine.board s.written k ≡ Some r → Fits plan k r) → (f : MachineFlight) × (due : List Change) × (f.key ≡ k) × (f.new ≡ placed_good plan s.machine.board s.written k) × MayBegin plan s.machine w f due × (HasRoomFor workers capacities s.objects s.machine due ⊎ ((kind : Kind) × LacksRoom plan workers capacities s k kind)) }
 {}
 
 /// What a worker does next is an event, or nothing. Where it is idle no event of any worker applies but the call that is due
@@ -134,5 +134,5 @@ pub fn free_keys_begin()
 pub fn idle_is_true()
     ensures next { (plan : Ports) (workers : ℕ) (capacities : List ℕ) (w : ℕ) (s t : SwitchState) (c : Option (Call Rid)) → IsNextEvent plan workers capacities w s c t → IsEvent plan workers capacities s c t ⊎ (IsIdle plan workers capacities w s × (c ≡ None) × (t ≡ s)) }
     ensures none { (plan : Ports) (workers : ℕ) (capacities : List ℕ) (w : ℕ) (s t : SwitchState) (c : Option (Call Rid)) → IsPlan plan → IsSafe plan workers capacities s → IsIdle plan workers capacities w s → IsNextEvent plan workers capacities w s c t → (c ≡ None) × (t ≡ s) }
-    ensures reasons { (plan : Ports) (workers : ℕ) (capacities : List ℕ) (w : ℕ) (s : SwitchState) (k : Key) → IsPlan plan → IsSafe plan workers capacities s → IsIdle plan workers capacities w s → IsQuiet s → IsIn k s.to_sync → (wait : Wait) × IsTrueReason plan capacities (good_of plan s.written) s.machine.board.applied k wait × NamesFirstKind plan capacities (good_of plan s.written) s.machine.board.applied k wait }
+    ensures reasons { (plan : Ports) (workers : ℕ) (capacities : List ℕ) (w : ℕ) (s : SwitchState) (k : Key) → IsPlan plan → IsSafe plan workers capacities s → IsIdle plan workers capacities w s → IsQuiet s → IsIn k s.to_sync → (wait : Wait) × IsTrueReason plan capacities (good_of plan s.written) (bare_rows s.machine.board.applied) k wait × NamesFirstKind plan capacities (good_of plan s.written) (bare_rows s.machine.board.applied) k wait }
 {}

@@ -5,6 +5,8 @@ use Rattle.std.specs.Str.{bytes_eq}
 use Rattle.swss_types.specs.Lanes.{lanes_of}
 use Rattle.swss_types.specs.Mac.{mac_of}
 use Rattle.swss_types.specs.declared.address.Mac.{Mac}
+use Rattle.swss_types.specs.declared.vrf.Vrf.{Vrf}
+use Rattle.swss_types.specs.declared.vrf.Vrf.TheVariants as vrf
 use Rattle.table_schema.specs.Broken.{bad}
 use Rattle.table_schema.specs.Fields.{Pairs, value_of}
 use Rattle.table_schema.specs.Plan.{Ports, lanes_in_plan}
@@ -74,13 +76,13 @@ vlan_read plan vlan r (fields, h) = cc
 pub vrf_read : (plan : Ports) (n : _) (r : Row) → IsRead plan (key.Vrf n) r → r ≡ row.Vrf
 vrf_read plan n r (fields, h) = cc
 
-pub in_router-is : (o : Option (List ℕ)) (r : Row) → in_router o ≡ Ok r → r ≡ row.Intf
+pub in_router-is : (o : Option (List ℕ)) (r : Row) → in_router o ≡ Ok r → r ≡ row.Intf vrf.Default
 in_router-is None r h = cc
 in_router-is (Some []) r h = cc
 in_router-is (Some (b ∷ bs)) r h = cc
 
-pub intf_read : (plan : Ports) (on : _) (r : Row) → IsRead plan (key.Intf on) r → r ≡ row.Intf
-intf_read plan on r (fields, h) = in_router-is (value_of (codes "vrf_name") fields) r h
+pub intf_read : (plan : Ports) (on : _) (r : Row) → IsRead plan (key.Intf on) r → (v : Vrf) × (r ≡ row.Intf v)
+intf_read plan on r (fields, h) = (vrf.Default, in_router-is (value_of (codes "vrf_name") fields) r h)
 
 pub mac_row-is : (o : Option Mac) (r : Row) → mac_row o ≡ Ok r → (mac : Mac) × (r ≡ row.Neigh mac)
 mac_row-is None r h = cc

@@ -74,9 +74,9 @@ below_both : (n : ℕ) (ks qs : List Key) → AreBelow n ks → AreBelow n qs �
 below_both n [] qs h g = g
 below_both n (k ∷ ks) qs h g = (h.0, below_both n ks qs h.1 g)
 
-routers_below : (v : Vrf) → AreBelow 3 (router_names v)
-routers_below vrf.Default = tt
-routers_below (vrf.Named n) = (omega arith, tt)
+routers_below : (n : ℕ) (v : Vrf) → 0 < n → AreBelow n (router_names v)
+routers_below n vrf.Default h = tt
+routers_below n (vrf.Named label) h = (h, tt)
 
 hops_below : (hops : List (RowHop × ℕ)) → AreBelow 3 (map (λ h. key.Neigh h.0.on h.0.ip) hops)
 hops_below [] = tt
@@ -92,7 +92,7 @@ routes_below (row.Port r) = tt
 routes_below row.Vlan = tt
 routes_below row.Vrf = tt
 routes_below (row.Member tagging) = tt
-routes_below row.Intf = tt
+routes_below (row.Intf v) = tt
 routes_below row.Addr = tt
 routes_below (row.Neigh mac) = tt
 routes_below (row.Route target) = targets_below target
@@ -103,10 +103,11 @@ names_below (key.Port port) r = tt
 names_below (key.Vlan vlan) r = tt
 names_below (key.Vrf n) r = tt
 names_below (key.Member vlan port) r = (omega arith, (omega arith, tt))
+names_below (key.Intf on) (row.Intf v) = below_both 1 (base_names on) (router_names v) (bases_below on) (routers_below 1 v (omega arith))
 names_below (key.Intf on) r = bases_below on
 names_below (key.Addr on ip len) r = (omega arith, tt)
 names_below (key.Neigh on ip) r = (omega arith, tt)
-names_below (key.Route v prefix) r = below_both 3 (router_names v) (names_of_route r) (routers_below v) (routes_below r)
+names_below (key.Route v prefix) r = below_both 3 (router_names v) (names_of_route r) (routers_below 3 v (omega arith)) (routes_below r)
 names_below (key.Other text) r = tt
 
 have_rows-same : (f g : TypedRows) (n m : ℕ) → n ≤ m → ((k : Key) → level_of k < m → f k ≡ g k) → (keys : List Key) → AreBelow n keys → have_rows g keys ≡ true → have_rows f keys ≡ true

@@ -37,7 +37,8 @@ use Rattle.sai_types.specs.Names as thing_name
 use Rattle.sai_types.specs.Names.{ThingName, base_name, name_of, thing_references, with_router}
 use Rattle.sai_types.proofs.Things.{both_mapped}
 use Rattle.sai_types.proofs.Weights.{put-back}
-use Rattle.switch_model.specs.Desired.{IsClosed, IsThingOf, desired_view, have_rows, ready_rows}
+use Rattle.switch_model.specs.Placed.{router_in, router_of_row}
+use Rattle.switch_model.specs.Desired.{IsClosed, IsThingOf, desired_view, have_rows, ready_rows, placed_things}
 use Rattle.switch_model.specs.Good.{TypedRows, good_rows}
 use Rattle.switch_model.specs.References.{IsSelfContained}
 use Rattle.switch_model.specs.Things.{address_things, base_of, from_base, from_hops, from_lane, hop_of, hops_of, lane_of, members_of, route_things, route_to, things_of, whop_of}
@@ -90,7 +91,7 @@ module _ (plan : Ports) (rows : TypedRows) (closed : IsClosed rows) (read : (k :
   AreMet x = AllIn IsMet (thing_references x)
 
   -- a thing of a row meets the references to its name
-  met_by : (k : Key) (r : Row) (y : Thing) → rows k ≡ Some r → IsIn y (things_of plan k r) → IsMet (name_of y)
+  met_by : (k : Key) (r : Row) (y : Thing) → rows k ≡ Some r → IsIn y (placed_things plan rows k r) → IsMet (name_of y)
   met_by k r y is h = (y, (k, r, is, h), refl)
 
   port_met : (port lane : ℕ) (r : Row) → rows (key.Port port) ≡ Some r → lane_of plan port ≡ Some lane → IsMet (thing_name.Port lane)
@@ -126,8 +127,9 @@ module _ (plan : Ports) (rows : TypedRows) (closed : IsClosed rows) (read : (k :
 
   rif_met : (on : IfName) (b : Base) (r : Row) → rows (key.Intf on) ≡ Some r → base_of plan on ≡ Some b → IsMet (thing_name.Rif b)
   rif_met on b r is at =
-      met_by (key.Intf on) row.Intf (thing.Rif b vrf.Default) (is ∙ ap Some (intf_read plan on r (read (key.Intf on) r is)))
-      (subst (λ o. IsIn (thing.Rif b vrf.Default) (from_base (λ b. thing.Rif b vrf.Default ∷ []) o)) (sym at) (inl refl))
+      let (v, of) = intf_read plan on r (read (key.Intf on) r is) in
+      met_by (key.Intf on) (row.Intf v) (thing.Rif b v) (is ∙ ap Some of)
+      (subst (λ o. IsIn (thing.Rif b v) (from_base (λ b. thing.Rif b v ∷ []) o)) (sym at) (inl refl))
 
   abbrev through : Base → Ip → Hop
   through b ip = record { on = b; ip = ip }
@@ -197,9 +199,9 @@ module _ (plan : Ports) (rows : TypedRows) (closed : IsClosed rows) (read : (k :
       (subst (λ o. IsIn (thing.BridgePort lane) (from_lane (λ lane. thing.BridgePort lane ∷ thing.VlanMember vlan lane tagging ∷ []) o)) (sym at) (inl refl)) in
       ((port_met port lane (there.1).0 (there.1).1 at, tt), ((vlan_met vlan (there.0).0 (there.0).1, (bridged, tt)), tt))
 
-  rif_by : (on : IfName) (o : Option Base) → have_rows rows (base_names on) ≡ true → base_of plan on ≡ o → AllIn AreMet (from_base (λ b. thing.Rif b vrf.Default ∷ []) o)
-  rif_by on None named at = tt
-  rif_by on (Some b) named at = ((base_met on b named at, tt), tt)
+  rif_by : (on : IfName) (v : Vrf) (o : Option Base) → have_rows rows (base_names on) ≡ true → have_rows rows (router_names v) ≡ true → base_of plan on ≡ o → AllIn AreMet (from_base (λ b. thing.Rif b v ∷ []) o)
+  rif_by on v None named routed at = tt
+  rif_by on v (Some b) named routed at = (in_router_met v _ routed (base_met on b named at, tt), tt)
 
   neigh_by : (on : IfName) (ip : Ip) (mac : Mac) (o : Option Base) → rows (key.Neigh on ip) ≡ Some (row.Neigh mac) → have_rows rows (key.Intf on ∷ []) ≡ true → base_of plan on ≡ o → AllIn AreMet (from_base (λ b. thing.Neighbor (through b ip) mac ∷ thing.NextHop (through b ip) ∷ []) o)
   neigh_by on ip mac None is named at = tt
@@ -214,19 +216,33 @@ module _ (plan : Ports) (rows : TypedRows) (closed : IsClosed rows) (read : (k :
   port_by port made None each = tt
   port_by port made (Some lane) each = (each lane, tt)
 
-  own_by : (on : IfName) (ip : Ip) → AllIn AreMet (address_things plan on ip)
-  own_by (name.Ethernet port) ip = port_by port (λ lane. thing.Own vrf.Default ip) (lane_of plan port) (λ lane. tt)
-  own_by (name.Vlan vlan) ip = (tt, tt)
-  own_by (name.Loopback number) ip = (tt, tt)
+  own_by : (on : IfName) (v : Vrf) (ip : Ip) → have_rows rows (router_names v) ≡ true → AllIn AreMet (address_things plan on v ip)
+  own_by (name.Ethernet port) v ip routed = port_by port (λ lane. thing.Own v ip) (lane_of plan port) (λ lane. in_router_met v [] routed tt)
+  own_by (name.Vlan vlan) v ip routed = (in_router_met v [] routed tt, tt)
+  own_by (name.Loopback number) v ip routed = (in_router_met v [] routed tt, tt)
+
+  -- the router of an interface's row has its row
+  routed_by : (on : IfName) (o : Option Row) → rows (key.Intf on) ≡ o → have_rows rows (router_names (router_of_row o)) ≡ true
+  routed_by on None is = refl
+  routed_by on (Some (row.Intf v)) is = (both_there rows (base_names on) (router_names v) (closed (key.Intf on) (row.Intf v) is)).1
+  routed_by on (Some (row.Port p)) is = refl
+  routed_by on (Some row.Vlan) is = refl
+  routed_by on (Some row.Vrf) is = refl
+  routed_by on (Some (row.Member t)) is = refl
+  routed_by on (Some row.Addr) is = refl
+  routed_by on (Some (row.Neigh mac)) is = refl
+  routed_by on (Some (row.Route t)) is = refl
 
   -- the things of a row of this key
-  row_met : (k : Key) (r : Row) → rows k ≡ Some r → have_rows rows (names_of k r) ≡ true → AllIn AreMet (things_of plan k r)
+  row_met : (k : Key) (r : Row) → rows k ≡ Some r → have_rows rows (names_of k r) ≡ true → AllIn AreMet (placed_things plan rows k r)
   row_met (key.Port port) (row.Port p) is named = port_by port (λ lane. thing.Port (record { lanes = p.lanes; speed = p.speed; mtu = p.mtu; up = p.up })) (lane_of plan port) (λ lane. tt)
   row_met (key.Vlan vlan) row.Vlan is named = (tt, tt)
   row_met (key.Vrf n) row.Vrf is named = (tt, tt)
   row_met (key.Member vlan port) (row.Member tagging) is named = member_by vlan port tagging (lane_of plan port) is named refl
-  row_met (key.Intf on) row.Intf is named = rif_by on (base_of plan on) named refl
-  row_met (key.Addr on ip len) row.Addr is named = own_by on ip
+  row_met (key.Intf on) (row.Intf v) is named =
+      let parts = both_there rows (base_names on) (router_names v) named in
+      rif_by on v (base_of plan on) parts.0 parts.1 refl
+  row_met (key.Addr on ip len) row.Addr is named = own_by on (router_in rows (key.Addr on ip len)) ip (routed_by on (rows (key.Intf on)) refl)
   row_met (key.Neigh on ip) (row.Neigh mac) is named = neigh_by on ip mac (base_of plan on) is named refl
   row_met (key.Route v prefix) (row.Route target) is named =
       let parts = both_there rows (router_names v) (route_names target) named in
@@ -236,7 +252,7 @@ module _ (plan : Ports) (rows : TypedRows) (closed : IsClosed rows) (read : (k :
   -- closed rows that read have all that their things refer to
   pub IsSelfContained-closed : IsSelfContained (IsThingOf plan rows)
   IsSelfContained-closed x n (k, r, is, h) refers =
-      one_of IsMet n (thing_references x) (one_of AreMet x (things_of plan k r) (row_met k r is (closed k r is)) h) refers
+      one_of IsMet n (thing_references x) (one_of AreMet x (placed_things plan rows k r) (row_met k r is (closed k r is)) h) refers
 
 -- and so has the desired view
 pub IsSelfContained-desired_view : (plan : Ports) (rows : Rows) → IsSelfContained (desired_view plan rows)

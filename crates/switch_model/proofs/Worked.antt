@@ -3,6 +3,7 @@ use Rattle.std.proofs.Common.{◌≡◌, ◌⊎◌, inl, inr, ℕ, suc, Bool, tr
 use Rattle.std.specs.BTreeMap.{is_at}
 use Rattle.std.specs.Map.{keys_of}
 use Rattle.std.specs.List.Sorted.{IsStrictlySortedBy}
+use Rattle.std.proofs.lemmas.Option.{same_Some}
 use Rattle.swss_types.specs.declared.address.Family.TheVariants.{V4}
 use Rattle.swss_types.specs.declared.address.Prefix.{Prefix}
 use Rattle.swss_types.specs.declared.interface.IfName.TheVariants as name
@@ -39,10 +40,9 @@ use Rattle.sai_types.specs.Alike.{IsIn, IsOnceIn}
 use Rattle.sai_types.specs.Made.{AreLegal}
 use Rattle.sai_types.specs.Named.{named}
 use Rattle.sai_types.proofs.Membership.{in-either, in-left, in-right}
-use Rattle.switch_model.specs.Desired.{IsClosed, IsThingOf, desired_view, have_rows, ready_rows}
+use Rattle.switch_model.specs.Desired.{IsClosed, IsThingOf, desired_view, have_rows, ready_rows, placed_things}
 use Rattle.switch_model.specs.Good.{TypedRows, good_row, good_rows}
 use Rattle.switch_model.specs.Promises.{IsSettled, applied_at}
-use Rattle.switch_model.specs.Things.{things_of}
 use Rattle.switch_model.specs.declared.mark.Mark.{Mark}
 use Rattle.switch_model.specs.declared.mark.MarkEvent.TheVariants as event
 use Rattle.switch_model.proofs.Ready.{ready-there}
@@ -67,32 +67,32 @@ good_in plan k rows r h = by (fields_at rows k) refl h
 abbrev pub IsExactly : (Thing → Type 0) → List Thing → Type 0
 IsExactly view things = (x : Thing) → (view x → IsIn x things) × (IsIn x things → view x)
 
-abbrev pub row_things : Ports → Key → Option Row → List Thing
-row_things plan k None = []
-row_things plan k (Some r) = things_of plan k r
+abbrev pub row_things : Ports → TypedRows → Key → Option Row → List Thing
+row_things plan rows k None = []
+row_things plan rows k (Some r) = placed_things plan rows k r
 
 -- the things of the rows of these keys, one behind the other
 abbrev pub things_at : Ports → TypedRows → List Key → List Thing
 things_at plan rows [] = []
-things_at plan rows (k ∷ ks) = row_things plan k (rows k) ++ things_at plan rows ks
+things_at plan rows (k ∷ ks) = row_things plan rows k (rows k) ++ things_at plan rows ks
 
 module _ (plan : Ports) (rows : TypedRows) where
-  listed : (ks : List Key) (k : Key) (r : Row) (x : Thing) → IsIn k ks → rows k ≡ Some r → IsIn x (things_of plan k r) → IsIn x (things_at plan rows ks)
+  listed : (ks : List Key) (k : Key) (r : Row) (x : Thing) → IsIn k ks → rows k ≡ Some r → IsIn x (placed_things plan rows k r) → IsIn x (things_at plan rows ks)
   listed [] k r x there is h = absurd there
   listed (q ∷ ks) k r x (inl e) is h =
-      in-left x (row_things plan q (rows q)) (things_at plan rows ks)
-      (subst (λ q. IsIn x (row_things plan q (rows q))) e (subst (λ o. IsIn x (row_things plan k o)) (sym is) h))
-  listed (q ∷ ks) k r x (inr there) is h = in-right x (row_things plan q (rows q)) (things_at plan rows ks) (listed ks k r x there is h)
+      in-left x (row_things plan rows q (rows q)) (things_at plan rows ks)
+      (subst (λ q. IsIn x (row_things plan rows q (rows q))) e (subst (λ o. IsIn x (row_things plan rows k o)) (sym is) h))
+  listed (q ∷ ks) k r x (inr there) is h = in-right x (row_things plan rows q (rows q)) (things_at plan rows ks) (listed ks k r x there is h)
 
-  one_thing : (k : Key) (x : Thing) (o : Option Row) → rows k ≡ o → IsIn x (row_things plan k o) → IsThingOf plan rows x
+  one_thing : (k : Key) (x : Thing) (o : Option Row) → rows k ≡ o → IsIn x (row_things plan rows k o) → IsThingOf plan rows x
   one_thing k x None is h = absurd h
   one_thing k x (Some r) is h = (k, r, is, h)
 
   is_thing : (ks : List Key) (x : Thing) → IsIn x (things_at plan rows ks) → IsThingOf plan rows x
   is_thing [] x h = absurd h
-  is_thing (k ∷ ks) x h = by (in-either x (row_things plan k (rows k)) (things_at plan rows ks) h) (is_thing ks x)
+  is_thing (k ∷ ks) x h = by (in-either x (row_things plan rows k (rows k)) (things_at plan rows ks) h) (is_thing ks x)
     where
-      by : IsIn x (row_things plan k (rows k)) ⊎ IsIn x (things_at plan rows ks) → (IsIn x (things_at plan rows ks) → IsThingOf plan rows x) → IsThingOf plan rows x
+      by : IsIn x (row_things plan rows k (rows k)) ⊎ IsIn x (things_at plan rows ks) → (IsIn x (things_at plan rows ks) → IsThingOf plan rows x) → IsThingOf plan rows x
       by (inl h) behind = one_thing k x (rows k) refl h
       by (inr h) behind = behind h
 
@@ -168,7 +168,9 @@ first_is_closed k r h = by (first_applied_in k r h)
   where
     by : IsIn k (key.Port 0 ∷ key.Intf (name.Ethernet 0) ∷ []) → have_rows first_applied (names_of k r) ≡ true
     by (inl e) = subst (λ q. have_rows first_applied (names_of q r) ≡ true) (sym e) refl
-    by (inr (inl e)) = subst (λ q. have_rows first_applied (names_of q r) ≡ true) (sym e) refl
+    by (inr (inl e)) =
+        let is : row.Intf vrf.Default ≡ r = same_Some (row.Intf vrf.Default) r (subst (λ q. first_applied q ≡ Some r) e h) in
+        subst (λ q. have_rows first_applied (names_of q r) ≡ true) (sym e) (subst (λ z. have_rows first_applied (names_of (key.Intf (name.Ethernet 0)) z) ≡ true) is refl)
     by (inr (inr h)) = absurd h
 
 first_each : (t : Option Thing) → IsIn t (Some first_port ∷ Some first_interface ∷ []) → (x : Thing) × (t ≡ Some x) × IsThingOf wide_plan first_applied x
@@ -243,3 +245,20 @@ red_view = view_is [] (rows_of red_writes)
 
 red_alone : IsExactly (desired_view [] (rows_of (red_route ∷ []))) []
 red_alone = view_is [] (rows_of (red_route ∷ []))
+
+-- An interface in it: an address of the interface is in its router.
+abbrev red_rows : TypedRows
+red_rows k = cond (is_at (key_cmp k) (key.Intf (name.Ethernet 0))) (Some (row.Intf (vrf.Named red))) None
+
+red_interface : names_of (key.Intf (name.Ethernet 0)) (row.Intf (vrf.Named red)) ≡ key.Port 0 ∷ key.Vrf red ∷ []
+red_interface = refl
+
+red_loopback : names_of (key.Intf (name.Loopback 0)) (row.Intf (vrf.Named red)) ≡ key.Vrf red ∷ []
+red_loopback = refl
+
+red_address : placed_things wide_plan red_rows (key.Addr (name.Ethernet 0) nine.ip 24) row.Addr ≡ thing.Own (vrf.Named red) nine.ip ∷ []
+red_address = refl
+
+-- and of an interface that has no row, in the default one
+far_address : placed_things wide_plan red_rows (key.Addr (name.Vlan 2) nine.ip 24) row.Addr ≡ thing.Own vrf.Default nine.ip ∷ []
+far_address = refl

@@ -6,7 +6,6 @@ use Rattle.swss_types.specs.declared.vrf.Vrf.TheVariants as vrf
 use Rattle.swss_types.specs.declared.address.Prefix.{Prefix}
 use Rattle.swss_types.specs.declared.interface.IfName.TheVariants as name
 use Rattle.table_schema.specs.declared.key.Key.TheVariants as key
-use Rattle.table_schema.specs.declared.row.Row.TheVariants as row
 use Rattle.sai_types.specs.declared.ids.Rid.{Rid}
 use Rattle.sai_types.specs.declared.kind.Kind.{Kind}
 use Rattle.sai_types.specs.declared.kind.Kind.TheVariants as kind
@@ -25,6 +24,7 @@ use Rattle.sai_types.specs.Names.{ThingName, name_of, thing_kind}
 use Rattle.sai_types.specs.Forwarding.{decide, forward}
 use Rattle.sai_types.specs.Objects.{level, used}
 use Rattle.sai_types.specs.Refusal.{capacity_of}
+use Rattle.switch_model.specs.Placed as placed
 use Rattle.switch_model.specs.Desired.{desired_view}
 use Rattle.switch_model.specs.Marks.{AreDistinctNames}
 use Rattle.switch_model.specs.Room.{AreKeysOf, FitsTogether, HasRoomForView, IsLacking}
@@ -199,11 +199,11 @@ one_route_is_steady = record {
 }
 
 -- An address on a port that the plan lacks has no things; on a loopback interface, and on a port of the plan, it has its own.
-far_address_is_nothing : things_of wide_plan (key.Addr (name.Ethernet 4) net.ip 24) row.Addr ≡ []
+far_address_is_nothing : things_of wide_plan (key.Addr (name.Ethernet 4) net.ip 24) (placed.Addr vrf.Default) ≡ []
 far_address_is_nothing = refl
 
-loopback_address_is_own : things_of wide_plan (key.Addr (name.Loopback 0) net.ip 32) row.Addr ≡ thing.Own vrf.Default net.ip ∷ []
+loopback_address_is_own : things_of wide_plan (key.Addr (name.Loopback 0) net.ip 32) (placed.Addr vrf.Default) ≡ thing.Own vrf.Default net.ip ∷ []
 loopback_address_is_own = refl
 
-near_address_is_own : things_of wide_plan (key.Addr (name.Ethernet 0) net.ip 24) row.Addr ≡ thing.Own vrf.Default net.ip ∷ []
+near_address_is_own : things_of wide_plan (key.Addr (name.Ethernet 0) net.ip 24) (placed.Addr vrf.Default) ≡ thing.Own vrf.Default net.ip ∷ []
 near_address_is_own = refl

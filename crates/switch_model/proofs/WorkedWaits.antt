@@ -5,6 +5,7 @@ use Rattle.std.specs.Ordering.{is_le}
 use Rattle.std.specs.List.Sorted.{IsStrictlySortedBy}
 use Rattle.swss_types.specs.declared.address.Family.TheVariants.{V4}
 use Rattle.swss_types.specs.declared.address.Ip.{Ip}
+use Rattle.std.proofs.lemmas.Option.{same_Some}
 use Rattle.swss_types.specs.declared.interface.IfName.TheVariants as name
 use Rattle.swss_types.specs.declared.vrf.Vrf.TheVariants as vrf
 use Rattle.table_schema.specs.Key.{key_cmp}
@@ -115,7 +116,8 @@ only_missing (wait.Missing name) (r, is, missing) =
   where
     some_key : (k q : Key) (o : Option Key) → o ≡ Some k → o ≡ Some q → k ≡ q
     some_key k q o h g = cc
-only_missing (wait.Held holder) (gone, r, is, by) = let here : Some route_row ≡ None = sym route_is_good ∙ gone in cc
+only_missing (wait.Held holder) (inl gone, r, is, by) = let here : Some route_row ≡ None = sym route_is_good ∙ gone in cc
+only_missing (wait.Held holder) (inr (old, new, at, good, have, moved), r, is, by) = absurd moved
 only_missing (wait.NoRoom kind) (r, is, have, over) =
     let same = some_row route_row r (route_good lone_route) route_is_good is in
     let lacks : have_rows none_applied (names_of lone_route r) ≡ false = subst (λ x. have_rows none_applied (names_of lone_route x) ≡ false) same refl in
@@ -147,7 +149,7 @@ abbrev held_sent : List Sent
 held_sent = sent_from 0 held_writes
 
 abbrev held_waits : Waiting
-held_waits = (held, wait.Held neighbour, Some row.Intf) ∷ []
+held_waits = (held, wait.Held neighbour, Some (row.Intf vrf.Default)) ∷ []
 
 abbrev held_good : TypedRows
 held_good = good_rows_at plan held_sent 7
@@ -164,7 +166,7 @@ applied_keys = held ∷ key.Port 0 ∷ key.Port 4 ∷ far_interface ∷ neighbou
 applied_in : (k : Key) (r : Row) → all_applied k ≡ Some r → IsIn k applied_keys
 applied_in k r h = by (is_at (key_cmp k) held) refl h
   where
-    by : (t : Bool) → is_at (key_cmp k) held ≡ t → cond t (Some row.Intf) (held_good k) ≡ Some r → IsIn k applied_keys
+    by : (t : Bool) → is_at (key_cmp k) held ≡ t → cond t (Some (row.Intf vrf.Default)) (held_good k) ≡ Some r → IsIn k applied_keys
     by true at h = inl (tied_keys_same k held at)
     by false at h = inr (good_in plan k (rows_of (sent_writes held_sent)) r h)
 
@@ -172,14 +174,17 @@ applied_in k r h = by (is_at (key_cmp k) held) refl h
 held_is_closed : IsClosed all_applied
 held_is_closed k r h = by (applied_in k r h)
   where
+    intf_row : (q : Key) → k ≡ q → all_applied q ≡ Some (row.Intf vrf.Default) → row.Intf vrf.Default ≡ r
+    intf_row q e is = same_Some (row.Intf vrf.Default) r (sym is ∙ subst (λ q. all_applied q ≡ Some r) e h)
+
     at : (q : Key) → k ≡ q → have_rows all_applied (names_of q r) ≡ true → have_rows all_applied (names_of k r) ≡ true
     at q e h = subst (λ q. have_rows all_applied (names_of q r) ≡ true) (sym e) h
 
     by : IsIn k applied_keys → have_rows all_applied (names_of k r) ≡ true
-    by (inl e) = at held e refl
+    by (inl e) = at held e (subst (λ z. have_rows all_applied (names_of held z) ≡ true) (intf_row held e refl) refl)
     by (inr (inl e)) = at (key.Port 0) e refl
     by (inr (inr (inl e))) = at (key.Port 4) e refl
-    by (inr (inr (inr (inl e)))) = at far_interface e refl
+    by (inr (inr (inr (inl e)))) = at far_interface e (subst (λ z. have_rows all_applied (names_of far_interface z) ≡ true) (intf_row far_interface e refl) refl)
     by (inr (inr (inr (inr (inl e))))) = at neighbour e refl
     by (inr (inr (inr (inr (inr (inl e)))))) = at far_neighbour e refl
     by (inr (inr (inr (inr (inr (inr h)))))) = absurd h
@@ -200,14 +205,17 @@ no_far (inr h) = h
 names_held : (k : Key) (r : Row) → all_applied k ≡ Some r → IsIn held (names_of k r) → k ≡ neighbour
 names_held k r h names = by (applied_in k r h) names
   where
+    intf_row : (q : Key) → k ≡ q → all_applied q ≡ Some (row.Intf vrf.Default) → row.Intf vrf.Default ≡ r
+    intf_row q e is = same_Some (row.Intf vrf.Default) r (sym is ∙ subst (λ q. all_applied q ≡ Some r) e h)
+
     unnamed : (q : Key) → k ≡ q → (IsIn held (names_of q r) → ⊥) → IsIn held (names_of k r) → k ≡ neighbour
     unnamed q e not_named names = absurd (not_named (subst (λ q. IsIn held (names_of q r)) e names))
 
     by : IsIn k applied_keys → IsIn held (names_of k r) → k ≡ neighbour
-    by (inl e) = unnamed held e held_is_no_port
+    by (inl e) = unnamed held e (subst (λ z. IsIn held (names_of held z) → ⊥) (intf_row held e refl) held_is_no_port)
     by (inr (inl e)) = unnamed (key.Port 0) e (λ h. h)
     by (inr (inr (inl e))) = unnamed (key.Port 4) e (λ h. h)
-    by (inr (inr (inr (inl e)))) = unnamed far_interface e no_far_port
+    by (inr (inr (inr (inl e)))) = unnamed far_interface e (subst (λ z. IsIn held (names_of far_interface z) → ⊥) (intf_row far_interface e refl) no_far_port)
     by (inr (inr (inr (inr (inl e))))) = λ names. e
     by (inr (inr (inr (inr (inr (inl e)))))) = unnamed far_neighbour e no_far
     by (inr (inr (inr (inr (inr (inr h)))))) = λ names. absurd h
@@ -216,7 +224,7 @@ neighbour_is_least : (other : Key) (r : Row) → all_applied other ≡ Some r �
 neighbour_is_least other r h names = subst (λ q. is_le (key_cmp neighbour q) ≡ true) (sym (names_held other r h names)) refl
 
 held_is_true : IsTrueReason plan room held_good all_applied held (wait.Held neighbour)
-held_is_true = (refl, row.Intf, refl, record { row = _; applied_row = refl; names = inl refl; least = neighbour_is_least })
+held_is_true = (inl refl, row.Intf vrf.Default, refl, record { row = _; applied_row = refl; names = inl refl; least = neighbour_is_least })
 
 -- no other reason is true
 only_held : (w : Wait) → IsTrueReason plan room held_good all_applied held w → w ≡ wait.Held neighbour

@@ -9,6 +9,7 @@ use Rattle.sai_types.specs.declared.thing.Thing.{Thing}
 use Rattle.sai_types.specs.Alike.{IsIn}
 use Rattle.switch_model.specs.Good.{TypedRows, good_rows}
 use Rattle.table_schema.specs.Rows.{Rows}
+use Rattle.switch_model.specs.Placed.{place, router_in}
 use Rattle.switch_model.specs.Things.{things_of}
 
 -- whether each of these keys has a row
@@ -25,7 +26,7 @@ abbrev pub ready_below : ℕ → TypedRows → TypedRows
 ready_below zero rows key = None
 ready_below (suc level) rows key = where_named (ready_below level rows) key (rows key)
 
--- the ready rows, taken level by level: ports and VLANs; members and interfaces; addresses and neighbours; routes
+-- the ready rows, taken level by level: ports, VLANs and virtual routers; members and interfaces; addresses and neighbours; routes
 abbrev pub ready_rows : TypedRows → TypedRows
 ready_rows rows = ready_below 4 rows
 
@@ -33,9 +34,13 @@ ready_rows rows = ready_below 4 rows
 abbrev pub IsClosed : TypedRows → Type 0
 IsClosed rows = (key : Key) (row : Row) → rows key ≡ Some row → have_rows rows (names_of key row) ≡ true
 
+-- the things that a row of this key has among these rows: an address is in the router of its interface's row
+abbrev pub placed_things : Ports → TypedRows → Key → Row → List Thing
+placed_things plan rows key row = things_of plan key (place (router_in rows key) row)
+
 -- the things of rows, as a set
 abbrev pub IsThingOf : Ports → TypedRows → Thing → Type 0
-IsThingOf plan rows thing = (key : Key) × (row : Row) × (rows key ≡ Some row) × IsIn thing (things_of plan key row)
+IsThingOf plan rows thing = (key : Key) × (row : Row) × (rows key ≡ Some row) × IsIn thing (placed_things plan rows key row)
 
 -- the desired view of the tables: the things of the ready good rows
 abbrev pub desired_view : Ports → Rows → Thing → Type 0

@@ -3,6 +3,7 @@ pub mod Good
 pub mod History
 pub mod Levels
 pub mod Marks
+pub mod Placed
 pub mod Promises
 pub mod References
 pub mod Room

@@ -5,7 +5,9 @@ use Rattle.std.specs.List.Sorted.{IsStrictlySortedBy}
 use Rattle.std.specs.Option.{is_some}
 use Rattle.std.specs.Ordering.{is_le}
 use Rattle.table_schema.specs.declared.key.Key.{Key}
+use Rattle.table_schema.specs.declared.key.Key.TheVariants as key
 use Rattle.table_schema.specs.declared.row.Row.{Row}
+use Rattle.table_schema.specs.declared.row.Row.TheVariants as row
 use Rattle.table_schema.specs.declared.write.Write.{Write}
 use Rattle.table_schema.specs.declared.write.Write.TheVariants as write
 use Rattle.table_schema.specs.declared.write.Sent.{Sent}
@@ -20,9 +22,8 @@ use Rattle.sai_types.specs.Objects.{level}
 use Rattle.sai_types.specs.Refusal.{capacity_of}
 use Rattle.switch_model.specs.declared.wait.Wait.{Wait}
 use Rattle.switch_model.specs.declared.wait.Wait.TheVariants as wait
-use Rattle.switch_model.specs.Desired.{IsThingOf, have_rows}
+use Rattle.switch_model.specs.Desired.{IsThingOf, have_rows, placed_things}
 use Rattle.switch_model.specs.Good.{TypedRows}
-use Rattle.switch_model.specs.Things.{things_of}
 
 -- keys that wait, each with its reason and the row that is applied for it
 abbrev pub Waiting : Type 0
@@ -51,7 +52,7 @@ AreDistinctNames (k ∷ ks) = (¬ (IsIn k ks)) × AreDistinctNames ks
 pub record Overflows (plan : Ports) (capacities : List ℕ) (applied : TypedRows) (key : Key) (row : Row) (kind : Kind) : Type 0 where
   pub keys : List ThingName
   pub distinct : AreDistinctNames keys
-  pub things : (k : ThingName) → IsIn k keys → (t : Thing) × (name_of t ≡ k) × (level (thing_kind t) ≡ level kind) × (IsThingOf plan applied t ⊎ IsIn t (things_of plan key row))
+  pub things : (k : ThingName) → IsIn k keys → (t : Thing) × (name_of t ≡ k) × (level (thing_kind t) ≡ level kind) × (IsThingOf plan applied t ⊎ IsIn t (placed_things plan applied key row))
   pub many : capacity_of capacities kind < length keys
 
 -- the row names the holder, which is applied and stands before all other holders
@@ -61,10 +62,19 @@ pub record IsHeldBy (applied : TypedRows) (key holder : Key) : Type 0 where
   pub names : IsIn key (names_of holder row)
   pub least : (other : Key) (r : Row) → applied other ≡ Some r → IsIn key (names_of other r) → is_le (key_cmp holder other) ≡ true
 
--- a reason is true: the row reads, and the first key that it names and that is not applied is this one; or the row is gone, and the least applied row that names it is this one; or the row reads, all that it names is applied, and there is no room for an object of this kind; no row waits for a worker at a mark
+-- an interface's row goes over to another router
+abbrev pub IsMoved : Key → Row → Row → Type 0
+IsMoved (key.Intf on) (row.Intf v) (row.Intf w) = v ≡ w → ⊥
+IsMoved _ _ _ = ⊥
+
+-- the applied row of a key is to go: the key has no good row; or its good row, all of whose names are applied, is in another router
+abbrev pub IsToGo : TypedRows → TypedRows → Key → Type 0
+IsToGo good applied k = (good k ≡ None) ⊎ ((old : Row) × (new : Row) × (applied k ≡ Some old) × (good k ≡ Some new) × (have_rows applied (names_of k new) ≡ true) × IsMoved k old new)
+
+-- a reason is true: the row reads, and the first key that it names and that is not applied is this one; or the row is gone or goes over to another router, and the least applied row that names it is this one; or the row reads, all that it names is applied, and there is no room for an object of this kind; no row waits for a worker at a mark
 abbrev pub IsTrueReason : Ports → List ℕ → TypedRows → TypedRows → Key → Wait → Type 0
 IsTrueReason plan capacities good applied key (wait.Missing name) = (row : Row) × (good key ≡ Some row) × (first_missing applied (names_of key row) ≡ Some name)
-IsTrueReason plan capacities good applied key (wait.Held holder) = (good key ≡ None) × (row : Row) × (applied key ≡ Some row) × IsHeldBy applied key holder
+IsTrueReason plan capacities good applied key (wait.Held holder) = IsToGo good applied key × (row : Row) × (applied key ≡ Some row) × IsHeldBy applied key holder
 IsTrueReason plan capacities good applied key (wait.NoRoom kind) = (row : Row) × (good key ≡ Some row) × (have_rows applied (names_of key row) ≡ true) × Overflows plan capacities applied key row kind
 IsTrueReason plan capacities good applied key (wait.Busy worker) = ⊥
 

@@ -24,6 +24,7 @@ use Rattle.switch_model.specs.Marks.{AreInOrder, Waiting, applied_rows, ReasonsA
 use Rattle.switch_model.specs.Good.{TypedRows, good_rows}
 use Rattle.table_schema.specs.Rows.{rows_of}
 use Rattle.switch_model.specs.Things.{things_of}
+use Rattle.switch_model.specs.Placed.{place}
 
 -- the good rows of the first so many writes taken
 abbrev pub good_rows_at : Ports → List Sent → ℕ → TypedRows
@@ -32,7 +33,7 @@ good_rows_at plan taken n = good_rows plan (rows_of (sent_writes (take n taken))
 -- each route on the chip is that of its prefix's good row after some number of the writes taken
 abbrev pub RoutesAreOfRows : Ports → List Sent → Objects → Type 0
 RoutesAreOfRows plan taken objects = (v : Vrf) (prefix : Prefix) (goal : Goal) → IsIn (Some (thing.Route v prefix goal)) (named objects)
-    → (n : ℕ) × (row : Row) × (n ≤ length taken) × (good_rows_at plan taken n (key.Route v prefix) ≡ Some row) × IsIn (thing.Route v prefix goal) (things_of plan (key.Route v prefix) row)
+    → (n : ℕ) × (row : Row) × (n ≤ length taken) × (good_rows_at plan taken n (key.Route v prefix) ≡ Some row) × IsIn (thing.Route v prefix goal) (things_of plan (key.Route v prefix) (place v row))
 
 -- legality: every call that took effect found its references present and removed nothing referenced, and no route ever pointed where no row sent it
 pub record EffectsAreLegal (plan : Ports) (capacities : List ℕ) (taken : List Sent) (effects : List (Call Rid)) : Type 0 where

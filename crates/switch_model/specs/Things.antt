@@ -5,11 +5,8 @@ use Rattle.swss_types.specs.declared.address.Prefix.{Prefix}
 use Rattle.swss_types.specs.declared.interface.IfName.{IfName}
 use Rattle.swss_types.specs.declared.interface.IfName.TheVariants as name
 use Rattle.swss_types.specs.declared.vrf.Vrf.{Vrf}
-use Rattle.swss_types.specs.declared.vrf.Vrf.TheVariants as vrf
 use Rattle.table_schema.specs.declared.key.Key.{Key}
 use Rattle.table_schema.specs.declared.key.Key.TheVariants as key
-use Rattle.table_schema.specs.declared.row.Row.{Row}
-use Rattle.table_schema.specs.declared.row.Row.TheVariants as row
 use Rattle.table_schema.specs.declared.row.RouteRow.{RouteRow}
 use Rattle.table_schema.specs.declared.row.RouteRow.TheVariants as route
 use Rattle.table_schema.specs.declared.row_hop.RowHop.{RowHop}
@@ -23,6 +20,8 @@ use Rattle.sai_types.specs.declared.thing.Thing.{Thing}
 use Rattle.sai_types.specs.declared.thing.Thing.TheVariants as thing
 use Rattle.sai_types.specs.Hop.{put_hop}
 use Rattle.sai_types.specs.Named.{first_lane, both}
+use Rattle.switch_model.specs.Placed as row
+use Rattle.switch_model.specs.Placed.{Placed}
 
 -- the first lane of a port of the plan
 abbrev pub lane_of : Ports → ℕ → Option ℕ
@@ -77,19 +76,19 @@ route_things plan v prefix (route.Direct on) = from_base (λ b. thing.Route v pr
 route_things plan v prefix (route.Hops hops) = from_hops v prefix (hops_of plan hops)
 
 -- the address of an interface, which is the switch's own: none where its port is not in the plan
-abbrev pub address_things : Ports → IfName → Ip → List Thing
-address_things plan (name.Ethernet port) ip = from_lane (λ lane. thing.Own vrf.Default ip ∷ []) (lane_of plan port)
-address_things plan (name.Vlan vlan) ip = thing.Own vrf.Default ip ∷ []
-address_things plan (name.Loopback number) ip = thing.Own vrf.Default ip ∷ []
+abbrev pub address_things : Ports → IfName → Vrf → Ip → List Thing
+address_things plan (name.Ethernet port) v ip = from_lane (λ lane. thing.Own v ip ∷ []) (lane_of plan port)
+address_things plan (name.Vlan vlan) v ip = thing.Own v ip ∷ []
+address_things plan (name.Loopback number) v ip = thing.Own v ip ∷ []
 
--- the things of a row, an interface and its addresses in the default router: none for a loopback interface, whose addresses have theirs, nor where a port is not in the plan
-abbrev pub things_of : Ports → Key → Row → List Thing
+-- the things of a row: none for a loopback interface, whose addresses have theirs, nor where a port is not in the plan
+abbrev pub things_of : Ports → Key → Placed → List Thing
 things_of plan (key.Port port) (row.Port r) = from_lane (λ lane. thing.Port (record { lanes = r.lanes; speed = r.speed; mtu = r.mtu; up = r.up }) ∷ []) (lane_of plan port)
 things_of plan (key.Vlan vlan) row.Vlan = thing.Vlan vlan ∷ []
 things_of plan (key.Vrf n) row.Vrf = thing.VirtualRouter n ∷ []
 things_of plan (key.Member vlan port) (row.Member tagging) = from_lane (λ lane. thing.BridgePort lane ∷ thing.VlanMember vlan lane tagging ∷ []) (lane_of plan port)
-things_of plan (key.Intf on) row.Intf = from_base (λ b. thing.Rif b vrf.Default ∷ []) (base_of plan on)
-things_of plan (key.Addr on ip len) row.Addr = address_things plan on ip
+things_of plan (key.Intf on) (row.Intf v) = from_base (λ b. thing.Rif b v ∷ []) (base_of plan on)
+things_of plan (key.Addr on ip len) (row.Addr v) = address_things plan on v ip
 things_of plan (key.Neigh on ip) (row.Neigh mac) = from_base (λ b. thing.Neighbor (record { on = b; ip = ip }) mac ∷ thing.NextHop (record { on = b; ip = ip }) ∷ []) (base_of plan on)
 things_of plan (key.Route v prefix) (row.Route r) = route_things plan v prefix r
 things_of plan _ _ = []

@@ -7,12 +7,11 @@ ghost use Rattle.sai_types.specs.declared.thing.Thing.{Thing};
 ghost use Rattle.sai_types.specs.Alike.{IsIn};
 ghost use Rattle.table_schema.specs.Plan.{Ports};
 ghost use Rattle.table_schema.specs.Rows.{Rows};
-ghost use Rattle.switch_model.specs.Desired.{IsClosed, IsThingOf, desired_view, ready_rows};
+ghost use Rattle.switch_model.specs.Desired.{IsClosed, IsThingOf, desired_view, ready_rows, placed_things};
 ghost use Rattle.switch_model.specs.Good.{TypedRows};
 ghost use Rattle.switch_model.specs.Marks.{Overflows};
 ghost use Rattle.switch_model.specs.References.{IsSelfContained};
 ghost use Rattle.switch_model.specs.Room.{HasRoomForView};
-ghost use Rattle.switch_model.specs.Things.{things_of};
 
 /// What a ready row names is ready.
 pub fn ready_rows_are_closed()
@@ -31,5 +30,5 @@ pub fn desired_view_is_self_contained()
 
 /// Where the applied things and those of a row have room together, no kind is without room for the row.
 pub fn room_overflows_nowhere()
-    ensures { (plan : Ports) (capacities : List ℕ) (applied : TypedRows) (key : Key) (row : Row) (kind : Kind) → HasRoomForView capacities (λ (t : Thing). IsThingOf plan applied t ⊎ IsIn t (things_of plan key row)) → ¬ (Overflows plan capacities applied key row kind) }
+    ensures { (plan : Ports) (capacities : List ℕ) (applied : TypedRows) (key : Key) (row : Row) (kind : Kind) → HasRoomForView capacities (λ (t : Thing). IsThingOf plan applied t ⊎ IsIn t (placed_things plan applied key row)) → ¬ (Overflows plan capacities applied key row kind) }
 {}

@@ -15,7 +15,7 @@ use Rattle.swss_script.specs.Fields.{fields_of, set_fields}
 use Rattle.swss_script.specs.Line.{word_alone, del_line, del_with, forward_to, is_block, is_name, json_line, line_by, script_line_of, line_with, producer_line, set_line, set_with, show_line, show_of, shown}
 use Rattle.swss_script.specs.Lines.{block_of, is_end, line_text, lines_in}
 use Rattle.swss_script.specs.Script.{script_of}
-use Rattle.swss_script.specs.Sections.{Placed, line_writes, lines_writes, name_behind, placed, round_behind, script_writes, told, whole_line}
+use Rattle.swss_script.specs.Sections.{PlacedWrite, line_writes, lines_writes, name_behind, placed, round_behind, script_writes, told, whole_line}
 use Rattle.swss_script.specs.Words.{behind_word, words_in}
 use Rattle.swss_script.specs.declared.line.Line.{Line}
 use Rattle.swss_script.specs.declared.line.Line.TheVariants.{Blank, Head, Producer, Put, Batch, Block, Restart, Settle, Shown, Other}
@@ -189,10 +189,10 @@ module _ (P : Write → Type 0) (set : (text : List ℕ) (fields : Pairs) → P 
 
   -- ---- the writes of lines
 
-  abbrev OfPlaced : Placed → Type 0
+  abbrev OfPlaced : PlacedWrite → Type 0
   OfPlaced p = P p.write
 
-  all-append : (xs ys : List Placed) → AllByRecursion OfPlaced xs → AllByRecursion OfPlaced ys → AllByRecursion OfPlaced (xs ++ ys)
+  all-append : (xs ys : List PlacedWrite) → AllByRecursion OfPlaced xs → AllByRecursion OfPlaced ys → AllByRecursion OfPlaced (xs ++ ys)
   all-append [] ys one more = more
   all-append (x ∷ xs) ys (is, one) more = (is, all-append xs ys one more)
 

@@ -12,7 +12,7 @@ use Rattle.table_schema.specs.declared.write.Write.{Write}
 use Rattle.swss_types.proofs.AllElements.{all-push}
 use Rattle.swss_types.proofs.Choices.{chosen_none}
 use Rattle.swss_script.specs.Script.{ended_in, in_section, producer_named, script_at, script_of, section_begun, round_settled, draft_with_line}
-use Rattle.swss_script.specs.Sections.{Placed, placed, acts_of, acts_writes, producer_name, rounds_writes, sections_by, sections_from, sections_of, sections_writes, text_writes, writes_of}
+use Rattle.swss_script.specs.Sections.{PlacedWrite, placed, acts_of, acts_writes, producer_name, rounds_writes, sections_by, sections_from, sections_of, sections_writes, text_writes, writes_of}
 use Rattle.swss_script.specs.Stage.{AreOfProducers, IsProducerNumber}
 use Rattle.swss_script.specs.declared.draft.Draft.{Draft}
 use Rattle.swss_script.specs.declared.draft.Place.{Place}
@@ -188,11 +188,11 @@ numbered-script bytes script h =
 
 -- ---- the writes of a producer in a round
 
-writes-append : (round : ℕ) (name : List ℕ) (xs ys : List Placed) → writes_of round name (xs ++ ys) ≡ writes_of round name xs ++ writes_of round name ys
+writes-append : (round : ℕ) (name : List ℕ) (xs ys : List PlacedWrite) → writes_of round name (xs ++ ys) ≡ writes_of round name xs ++ writes_of round name ys
 writes-append round name [] ys = refl
 writes-append round name (x ∷ xs) ys = by (x.round == round && bytes_eq x.producer name) x (filter (λ p. p.round == round && bytes_eq p.producer name) (xs ++ ys)) (filter (λ p. p.round == round && bytes_eq p.producer name) xs) (writes_of round name ys) (writes-append round name xs ys)
   where
-    by : (b : Bool) (x : Placed) (all first : List Placed) (last : List Write) → map (λ p. p.write) all ≡ map (λ p. p.write) first ++ last → map (λ p. p.write) (cond b (x ∷ all) all) ≡ map (λ p. p.write) (cond b (x ∷ first) first) ++ last
+    by : (b : Bool) (x : PlacedWrite) (all first : List PlacedWrite) (last : List Write) → map (λ p. p.write) all ≡ map (λ p. p.write) first ++ last → map (λ p. p.write) (cond b (x ∷ all) all) ≡ map (λ p. p.write) (cond b (x ∷ first) first) ++ last
     by true x all first last h = ap (λ ws. x.write ∷ ws) h
     by false x all first last h = h
 
@@ -204,7 +204,7 @@ writes-acts round name n other [] = none (n == round && bytes_eq other name)
     none false = refl
 writes-acts round name n other (act.Write w ∷ acts) = by (n == round && bytes_eq other name) w (filter (λ p. p.round == round && bytes_eq p.producer name) (acts_writes n other acts)) (acts_of acts) (writes-acts round name n other acts)
   where
-    by : (b : Bool) (w : Write) (all : List Placed) (rest : List Write) → map (λ p. p.write) all ≡ cond b rest [] → map (λ p. p.write) (cond b (placed n other w ∷ all) all) ≡ cond b (w ∷ rest) []
+    by : (b : Bool) (w : Write) (all : List PlacedWrite) (rest : List Write) → map (λ p. p.write) all ≡ cond b rest [] → map (λ p. p.write) (cond b (placed n other w ∷ all) all) ≡ cond b (w ∷ rest) []
     by true w all rest h = ap (λ ws. w ∷ ws) h
     by false w all rest h = h
 writes-acts round name n other (act.Restart ∷ acts) = writes-acts round name n other acts

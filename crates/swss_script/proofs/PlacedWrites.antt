@@ -18,7 +18,7 @@ use Rattle.swss_script.specs.Line.{is_block, script_line_of}
 use Rattle.swss_script.specs.Lines.{block_of, is_end, is_too_long, line_text, lines_in, text_of}
 use Rattle.swss_image.specs.declared.fault.ImageFault.{ImageFault}
 use Rattle.swss_script.specs.Script.{add, new_draft, ended_in, if_built, image_set, in_block, in_head, in_section, producer_named, draft_round_ended, script_at, script_from, script_of, section_begun, round_settled, shown_in, step, draft_step, with_block, with_head, draft_with_line, with_plan, with_text}
-use Rattle.swss_script.specs.Sections.{Placed, placed, acts_writes, producer_name, sections_writes, rounds_writes, script_writes, whole_line, told, line_writes, round_behind, name_behind, lines_writes, text_writes}
+use Rattle.swss_script.specs.Sections.{PlacedWrite, placed, acts_writes, producer_name, sections_writes, rounds_writes, script_writes, whole_line, told, line_writes, round_behind, name_behind, lines_writes, text_writes}
 use Rattle.swss_script.specs.declared.draft.Draft.{Draft}
 use Rattle.swss_script.specs.declared.draft.Place.{Place}
 use Rattle.swss_script.specs.declared.draft.Place.TheVariants as place
@@ -72,7 +72,7 @@ abbrev open_round : Draft → ℕ
 open_round d = 1 + length d.script.rounds
 
 -- the writes of a draft, those of its open section by the producer of this name
-abbrev base : List (List ℕ) → Draft → List ℕ → List Placed
+abbrev base : List (List ℕ) → Draft → List ℕ → List PlacedWrite
 base names d name = rounds_writes names 1 d.script.rounds ++ (sections_writes names (open_round d) d.sections ++ acts_writes (open_round d) name d.acts)
 
 -- the name of the producer whose section is open
@@ -81,7 +81,7 @@ current names place.Head = []
 current names (place.Section producer) = producer_name names producer
 current names place.Settled = []
 
-abbrev so_far : List (List ℕ) → Draft → List Placed
+abbrev so_far : List (List ℕ) → Draft → List PlacedWrite
 so_far names d = base names d (current names d.place)
 
 abbrev round_in : Place → ℕ → ℕ
@@ -159,7 +159,7 @@ pub record IsStill (d e : Draft) : Type 0 where
 still-to : (d middle e : Draft) → IsStill d middle → middle ≡ e → IsStill d e
 still-to d middle e still is = subst (IsStill d) is still
 
-abbrev base_of : List (List ℕ) → List Round → List Section → List Act → List ℕ → List Placed
+abbrev base_of : List (List ℕ) → List Round → List Section → List Act → List ℕ → List PlacedWrite
 base_of names rounds sections acts name = rounds_writes names 1 rounds ++ (sections_writes names (1 + length rounds) sections ++ acts_writes (1 + length rounds) name acts)
 
 still-writes : (names : List (List ℕ)) (d e : Draft) → IsStill d e → so_far names e ≡ so_far names d ++ []
@@ -345,7 +345,7 @@ moves-add names d e line tidy script_begins_with h = moves-built names d e line 
 -- ---- lines one after the other
 
 -- the writes so far, with those of lines
-abbrev with_lines : List (List ℕ) → Draft → List Line → List Placed
+abbrev with_lines : List (List ℕ) → Draft → List Line → List PlacedWrite
 with_lines names d lines = so_far names d ++ lines_writes (next_round d) (current names d.place) lines
 
 -- a step leaves what the lines come to

@@ -13,17 +13,17 @@ use Rattle.swss_script.specs.declared.parts.Section.{Section}
 use Rattle.swss_script.specs.declared.script.Script.{Script}
 
 -- a write of a round, counted from 1, by the producer of this name
-pub record Placed : Type 0 where
+pub record PlacedWrite : Type 0 where
   pub round : ℕ
   pub producer : List ℕ
   pub write : Write
 
-abbrev pub placed : ℕ → List ℕ → Write → Placed
+abbrev pub placed : ℕ → List ℕ → Write → PlacedWrite
 placed round name write = record { round = round; producer = name; write = write }
 
 -- ---- the writes of a script
 
-abbrev pub acts_writes : ℕ → List ℕ → List Act → List Placed
+abbrev pub acts_writes : ℕ → List ℕ → List Act → List PlacedWrite
 acts_writes round name [] = []
 acts_writes round name (act.Write write ∷ acts) = placed round name write ∷ acts_writes round name acts
 acts_writes round name (act.Restart ∷ acts) = acts_writes round name acts
@@ -32,16 +32,16 @@ acts_writes round name (act.Restart ∷ acts) = acts_writes round name acts
 abbrev pub producer_name : List (List ℕ) → ℕ → List ℕ
 producer_name names number = slice_index_or names (number - 1) []
 
-abbrev pub sections_writes : List (List ℕ) → ℕ → List Section → List Placed
+abbrev pub sections_writes : List (List ℕ) → ℕ → List Section → List PlacedWrite
 sections_writes names round [] = []
 sections_writes names round (section ∷ sections) = acts_writes round (producer_name names section.producer) section.acts ++ sections_writes names round sections
 
-abbrev pub rounds_writes : List (List ℕ) → ℕ → List Round → List Placed
+abbrev pub rounds_writes : List (List ℕ) → ℕ → List Round → List PlacedWrite
 rounds_writes names number [] = []
 rounds_writes names number (round ∷ rounds) = sections_writes names number round.sections ++ rounds_writes names (number + 1) rounds
 
 -- the writes of a script, in order
-abbrev pub script_writes : Script → List Placed
+abbrev pub script_writes : Script → List PlacedWrite
 script_writes script = rounds_writes script.producers 1 script.rounds
 
 -- ---- the writes of lines
@@ -57,7 +57,7 @@ told block (line ∷ lines) =
     if block then told (not (is_end (line_text line))) lines
     else whole_line (script_line_of (line_text line)) lines ∷ told (is_block (script_line_of (line_text line))) lines
 
-abbrev pub line_writes : ℕ → List ℕ → Line → List Placed
+abbrev pub line_writes : ℕ → List ℕ → Line → List PlacedWrite
 line_writes round name (Put write) = placed round name write ∷ []
 line_writes round name (Batch (Some writes)) = map (placed round name) writes
 line_writes round name line = []
@@ -74,18 +74,18 @@ name_behind name Settle = []
 name_behind name line = name
 
 -- the writes of lines that begin in this round, in a section of this producer
-abbrev pub lines_writes : ℕ → List ℕ → List Line → List Placed
+abbrev pub lines_writes : ℕ → List ℕ → List Line → List PlacedWrite
 lines_writes round name [] = []
 lines_writes round name (line ∷ lines) = line_writes round name line ++ lines_writes (round_behind round line) (name_behind name line) lines
 
 -- the writes of the lines of a text, in order
-abbrev pub text_writes : List ℕ → List Placed
+abbrev pub text_writes : List ℕ → List PlacedWrite
 text_writes bytes = lines_writes 1 [] (told false (lines_in bytes))
 
 -- ---- a producer in a round
 
 -- of placed writes, those of a producer in a round
-abbrev pub writes_of : ℕ → List ℕ → List Placed → List Write
+abbrev pub writes_of : ℕ → List ℕ → List PlacedWrite → List Write
 writes_of round name writes = map (λ p. p.write) (filter (λ p. p.round == round && bytes_eq p.producer name) writes)
 
 abbrev pub acts_of : List Act → List Write

@@ -1,5 +1,5 @@
 // Syncd.
-ghost use Rattle.std.specs.Prelude.{◌≡◌, [], length, None, slice_index, IfOk, OnErr};
+ghost use Rattle.std.specs.Prelude.{◌≡◌, ◌<◌, ◌^◌, [], length, None, slice_index, IfOk, OnErr};
 ghost use Rattle.sai_types.specs.declared.kind.Kind.{Kind};
 ghost use Rattle.sai_types.specs.ChipState.{AppendsEach, IsAnswered, IsAskedOnce, asked, objects_of};
 ghost use Rattle.sai_types.specs.Objects.{Objects, level};
@@ -127,7 +127,8 @@ impl Syncd {
     /// How many objects of each kind there are, in the order of the kinds, in the temporary view, where one is built, and
     /// otherwise in the view that stands for the chip.
     pub fn counts(&self) -> KindCounts
-        ensures { (k : Kind) → slice_index result (level k) ≡ used_of (current self.now) k }
+        ensures kinds { (k : Kind) → slice_index result (level k) ≡ used_of (current self.now) k }
+        ensures few { (k : Kind) → used_of (current self.now) k < 2 ^ 63 }
     {
         match &self.temporary {
             Some(view) => view.counts(),

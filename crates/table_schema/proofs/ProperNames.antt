@@ -1,5 +1,5 @@
 -- what a row names are proper keys
-use Rattle.std.proofs.Common.{◌≡◌, ℕ, ◌==◌, ◌&&◌, Bool, true, false, cond, leb, ltb, List, [], ◌∷◌, length, map, Option, None, Some, Result, Ok, Err, codes, refl, subst}
+use Rattle.std.proofs.Common.{◌≡◌, ℕ, ◌==◌, ◌&&◌, Bool, true, false, cond, leb, ltb, List, [], ◌∷◌, length, map, Option, None, Some, Result, Ok, Err, codes, refl, sym, subst}
 use Rattle.std.specs.List.{AllByRecursion}
 use Rattle.swss_types.specs.Address.{IsProperIp}
 use Rattle.swss_types.specs.Interface.{if_name_of, IsProperIfName}
@@ -14,11 +14,11 @@ use Rattle.table_schema.specs.Broken.{bad, and_then}
 use Rattle.table_schema.specs.Fields.{Pairs, value_of}
 use Rattle.table_schema.specs.Hop.{put_row_hop}
 use Rattle.table_schema.specs.KeyText.{on_switch}
-use Rattle.table_schema.specs.Names.{base_names, names_of, names_of_route, route_names}
+use Rattle.table_schema.specs.Names.{intf_names, names_of, names_of_intf, names_of_route, route_names}
 use Rattle.table_schema.specs.Plan.{Ports}
 use Rattle.table_schema.specs.ProperKey.{IsProperKey, AreProperKeys}
 use Rattle.table_schema.specs.RouteRules.{drops_of, field_filled, route_hops_of, hop_at, hop_of_texts, hop_or_why, hops_of_texts, hops_with, is_zero, route_row_of, route_target, target_of_hops}
-use Rattle.table_schema.specs.Rules.{row_of}
+use Rattle.table_schema.specs.Rules.{in_router, row_of}
 use Rattle.table_schema.specs.declared.key.Key.{Key}
 use Rattle.table_schema.specs.declared.key.Key.TheVariants as key
 use Rattle.table_schema.specs.declared.row.BadRow.{BadRow}
@@ -122,10 +122,15 @@ proper_targets route.Drop h = tt
 proper_targets (route.Direct on) h = (IsProperKey-typed (key.Intf on) h, tt)
 proper_targets (route.Hops hops) h = proper_hops hops h
 
-proper_base : (on : IfName) → IsProperIfName on → AreProperKeys (base_names on)
-proper_base (name.Ethernet port) h = (IsProperKey-typed (key.Port port) h, tt)
-proper_base (name.Vlan vlan) h = (IsProperKey-typed (key.Vlan vlan) h, tt)
-proper_base (name.Loopback number) h = tt
+proper_intf : (on : IfName) → IsProperIfName on → AreProperKeys (intf_names on vrf.Default)
+proper_intf (name.Ethernet port) h = (IsProperKey-typed (key.Port port) h, tt)
+proper_intf (name.Vlan vlan) h = (IsProperKey-typed (key.Vlan vlan) h, tt)
+proper_intf (name.Loopback number) h = tt
+
+in_default : (o : Option (List ℕ)) (r : Row) → in_router o ≡ Ok r → r ≡ row.Intf vrf.Default
+in_default None r e = cc
+in_default (Some []) r e = cc
+in_default (Some (b ∷ bs)) r e = cc
 
 -- what a row of a proper key names are proper keys
 pub AreProperKeys-names_of : (plan : Ports) (k : Key) (fields : Pairs) (r : Row) → IsProperKey k → row_of plan k fields ≡ Ok r → AreProperKeys (names_of k r)
@@ -133,7 +138,7 @@ AreProperKeys-names_of plan (key.Port port) fields r h e = tt
 AreProperKeys-names_of plan (key.Vlan vlan) fields r h e = tt
 AreProperKeys-names_of plan (key.Vrf n) fields r h e = tt
 AreProperKeys-names_of plan (key.Member vlan port) fields r h e = (IsProperKey-typed (key.Vlan vlan) h.parts.0, (IsProperKey-typed (key.Port port) h.parts.1, tt))
-AreProperKeys-names_of plan (key.Intf on) fields r h e = proper_base on h.parts
+AreProperKeys-names_of plan (key.Intf on) fields r h e = subst (λ z. AreProperKeys (names_of_intf on z)) (sym (in_default (value_of (codes "vrf_name") fields) r e)) (proper_intf on h.parts)
 AreProperKeys-names_of plan (key.Addr on ip len) fields r h e = (IsProperKey-typed (key.Intf on) h.parts.0, tt)
 AreProperKeys-names_of plan (key.Neigh on ip) fields r h e = (IsProperKey-typed (key.Intf on) h.parts.0, tt)
 AreProperKeys-names_of plan (key.Route (vrf.Named n) prefix) fields r h e = elim h.parts [ ]

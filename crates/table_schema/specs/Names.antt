@@ -11,7 +11,7 @@ use Rattle.table_schema.specs.declared.row.Row.TheVariants as row
 use Rattle.table_schema.specs.declared.row.RouteRow.{RouteRow}
 use Rattle.table_schema.specs.declared.row.RouteRow.TheVariants as route
 
--- an interface stands on its port or VLAN
+-- the port or VLAN of an interface
 abbrev pub base_names : IfName → List Key
 base_names (name.Ethernet port) = key.Port port ∷ []
 base_names (name.Vlan vlan) = key.Vlan vlan ∷ []
@@ -21,6 +21,14 @@ base_names (name.Loopback number) = []
 abbrev pub router_names : Vrf → List Key
 router_names vrf.Default = []
 router_names (vrf.Named n) = key.Vrf n ∷ []
+
+-- an interface stands on its port or VLAN, and then on the row of its virtual router
+abbrev pub intf_names : IfName → Vrf → List Key
+intf_names on v = base_names on ++ router_names v
+
+abbrev pub names_of_intf : IfName → Row → List Key
+names_of_intf on (row.Intf v) = intf_names on v
+names_of_intf on _ = base_names on
 
 -- a route stands on its interface, or on the neighbours that are its hops
 abbrev pub route_names : RouteRow → List Key
@@ -38,7 +46,7 @@ names_of (key.Port port) r = []
 names_of (key.Vlan vlan) r = []
 names_of (key.Vrf n) r = []
 names_of (key.Member vlan port) r = key.Vlan vlan ∷ key.Port port ∷ []
-names_of (key.Intf on) r = base_names on
+names_of (key.Intf on) r = names_of_intf on r
 names_of (key.Addr on ip len) r = key.Intf on ∷ []
 names_of (key.Neigh on ip) r = key.Intf on ∷ []
 names_of (key.Route v prefix) r = router_names v ++ names_of_route r

@@ -8,6 +8,7 @@ use Rattle.swss_types.specs.Tagging.{tagging_of}
 use Rattle.swss_types.specs.declared.address.Mac.{Mac}
 use Rattle.swss_types.specs.declared.tagging.Tagging.{Tagging}
 use Rattle.swss_types.specs.declared.tagging.Tagging.TheVariants.{Untagged}
+use Rattle.swss_types.specs.declared.vrf.Vrf.TheVariants as vrf
 use Rattle.table_schema.specs.Broken.{bad, and_then}
 use Rattle.table_schema.specs.Fields.{Pairs, value_of}
 use Rattle.table_schema.specs.Plan.{Ports, lanes_in_plan}
@@ -57,10 +58,10 @@ port_row_with lanes fields =
 abbrev pub port_row_of : Ports → ℕ → Pairs → Result Row BadRow
 port_row_of plan port fields = and_then (port_lanes (lanes_in_plan plan port) (value_of (codes "lanes") fields)) (λ lanes. port_row_with lanes fields)
 
--- an interface in the default virtual router
+-- an interface's row: so far none but the default virtual router is read, which its addresses are in too
 abbrev pub in_router : Option (List ℕ) → Result Row BadRow
-in_router None = Ok row.Intf
-in_router (Some []) = Ok row.Intf
+in_router None = Ok (row.Intf vrf.Default)
+in_router (Some []) = Ok (row.Intf vrf.Default)
 in_router (Some (b ∷ bs)) = bad Unsupported 16
 
 abbrev pub intf_row_of : Pairs → Result Row BadRow

@@ -1,6 +1,6 @@
 // What a row names.
 ghost use Rattle.std.specs.Prelude.{◌≡◌, ◌++◌, IfOk, OnOk, map, slice_get};
-ghost use Rattle.table_schema.specs.Names.{base_names, names_of, names_of_route, route_names, router_names};
+ghost use Rattle.table_schema.specs.Names.{base_names, intf_names, names_of, names_of_route, route_names, router_names};
 
 use crate::{Key, RouteRow, Row, RowHop};
 use std::alloc::Global;
@@ -12,6 +12,7 @@ pub fn names(alloc: Global, key: &Key, row: &Row) -> Result<Vec<Key>, OutOfMemor
 {
     match (key, row) {
         (Key::Member(vlan, port), _) => Ok(vec![in alloc; Key::Vlan(*vlan), Key::Port(*port)]?),
+        (Key::Intf(on), Row::Intf(vrf)) => intf_names(alloc, *on, *vrf),
         (Key::Intf(on), _) => base_names(alloc, *on),
         (Key::Addr(on, ..) | Key::Neigh(on, _), _) => Ok(vec![in alloc; Key::Intf(*on)]?),
         (Key::Route(vrf, _), _) => names_of_route(alloc, *vrf, row),
@@ -25,6 +26,7 @@ pub fn first_name(key: &Key, row: &Row) -> Option<Key>
 {
     match (key, row) {
         (Key::Member(vlan, _), _) => Some(Key::Vlan(*vlan)),
+        (Key::Intf(on), Row::Intf(vrf)) => intf_name(*on, *vrf),
         (Key::Intf(on), _) => base_name(*on),
         (Key::Addr(on, ..) | Key::Neigh(on, _), _) => Some(Key::Intf(*on)),
         (Key::Route(Vrf::Named(name), _), _) => Some(Key::Vrf(*name)),
@@ -33,7 +35,19 @@ pub fn first_name(key: &Key, row: &Row) -> Option<Key>
     }
 }
 
-/// The port or VLAN of an interface, which is the only key that it stands on.
+/// The first key that an interface in this virtual router stands on.
+fn intf_name(on: IfName, vrf: Vrf) -> Option<Key>
+    ensures { result ≡ slice_get (intf_names on vrf) 0 }
+{
+    match (on, vrf) {
+        (IfName::Ethernet(port), _) => Some(Key::Port(port)),
+        (IfName::Vlan(vlan), _) => Some(Key::Vlan(vlan)),
+        (IfName::Loopback(_), Vrf::Named(name)) => Some(Key::Vrf(name)),
+        (IfName::Loopback(_), Vrf::Default) => None,
+    }
+}
+
+/// The port or VLAN of an interface.
 fn base_name(on: IfName) -> Option<Key>
     ensures { result ≡ slice_get (base_names on) 0 }
 {
@@ -56,6 +70,17 @@ fn first_route_name(target: &RouteRow) -> Option<Key>
             [(first, _), ..] => Some(Key::Neigh(first.on, first.ip)),
         },
     }
+}
+
+/// The port or VLAN of an interface, and then its virtual router, unless that is the default one.
+fn intf_names(alloc: Global, on: IfName, vrf: Vrf) -> Result<Vec<Key>, OutOfMemory>
+    ensures { IfOk result (λ names. names.items ≡ intf_names on vrf) }
+{
+    let mut names = base_names(alloc, on)?;
+    if let Vrf::Named(name) = vrf {
+        names.push(Key::Vrf(name))?;
+    }
+    Ok(names)
 }
 
 /// The port or VLAN of an interface.

@@ -2,7 +2,7 @@
 ghost use Rattle.std.specs.Prelude.{◌≡◌, IfOk};
 
 use crate::RowHops;
-use swss_types::{IfName, Lanes, Mac, OutOfMemory, Tagging};
+use swss_types::{IfName, Lanes, Mac, OutOfMemory, Tagging, Vrf};
 
 /// A port's row.
 #[derive(Debug, PartialEq, Eq, Drop)]
@@ -39,8 +39,8 @@ pub enum Row {
     Vrf,
     /// A VLAN member's.
     Member(Tagging),
-    /// An interface's.
-    Intf,
+    /// An interface's: the virtual router that it is in.
+    Intf(Vrf),
     /// An interface's address's.
     Addr,
     /// A neighbour's: its Ethernet address.
@@ -114,7 +114,7 @@ impl Row {
             Row::Vlan => Row::Vlan,
             Row::Vrf => Row::Vrf,
             Row::Member(tagging) => Row::Member(*tagging),
-            Row::Intf => Row::Intf,
+            Row::Intf(vrf) => Row::Intf(*vrf),
             Row::Addr => Row::Addr,
             Row::Neigh(mac) => Row::Neigh(*mac),
             Row::Route(route) => Row::Route(route.copy()?),

@@ -11,7 +11,7 @@ use crate::row::BadWhy::{BadValue, HostBits, LanesDiffer, MissingField, Unsuppor
 use crate::split::split_once;
 use crate::{BadRow, Fields, Key, PortPlan, PortRow, Row, field};
 use std::alloc::Global;
-use swss_types::{Lanes, Mac, OutOfMemory, Tagging, Text, has_host_bits, read_number};
+use swss_types::{Lanes, Mac, OutOfMemory, Tagging, Text, Vrf, has_host_bits, read_number};
 
 /// The row of a key, or the first rule that it breaks (docs/FORMATS.md has the rules in their order).
 pub fn read_row(
@@ -138,7 +138,7 @@ fn read_intf(fields: &Fields) -> Result<Row, BadRow>
 {
     match fields.get(b"vrf_name") {
         Some(name) if !name.bytes().is_empty() => Err(bad(Unsupported, field::VRF_NAME)),
-        _ => Ok(Row::Intf),
+        _ => Ok(Row::Intf(Vrf::Default)),
     }
 }
 

@@ -4,7 +4,7 @@ use Rattle.std.proofs.lemmas.List.{append-nil}
 use Rattle.swss_types.specs.declared.tagging.Tagging.{Tagging}
 use Rattle.table_schema.specs.Plan.{IsPlan, Ports}
 use Rattle.table_schema.specs.declared.key.Key.TheVariants as key
-use Rattle.table_schema.specs.declared.row.Row.TheVariants as row
+use Rattle.switch_model.specs.Placed as row
 use Rattle.sai_types.specs.Alike.{IsIn}
 use Rattle.sai_types.specs.Names as thing_name
 use Rattle.sai_types.specs.Names.{name_of}
@@ -28,10 +28,11 @@ use Rattle.ref_counts.specs.declared.name.Name.TheVariants as name
 use Rattle.ref_counts.specs.declared.next.Next.{Next}
 use Rattle.ref_counts.specs.declared.next.Next.TheVariants as next
 use Rattle.ref_counts.specs.Registered.{first_of}
-use Rattle.ref_counts.specs.Registry.{Names, ids_of, places_of}
+use Rattle.ref_counts.specs.declared.name.NameState.TheVariants as state
+use Rattle.ref_counts.specs.Registry.{Names, ids_of, places_of, state_of}
 use Rattle.orch_flight.specs.Calling.{HasVid, IsEntryOf, IsNextOf, IsOver, row_vid}
 use Rattle.orch_flight.specs.Operation.{Operation}
-use Rattle.orch_flight.specs.Taking.{MayTake, built_name, to_list}
+use Rattle.orch_flight.specs.Taking.{MayBeLive, MayTake, built_name, to_list}
 use Rattle.vlan_orch.specs.Vlans.{member_operation, vlan_operation}
 use Rattle.vlan_orch.specs.declared.steps.Membership.{Membership}
 use Rattle.vlan_orch.specs.declared.steps.MemberStep.{MemberStep}
@@ -186,5 +187,8 @@ next-vlan plan names worker vlan step same = subst (λ s. IsNextOf plan names (v
 pub has-made : (names : Names) (f : Operation) (made : Option Vid) (t : Thing) (rest : List Change) → f.due ≡ Make t ∷ rest → has_number t ≡ true → MayTake f made names → IsSome made
 has-made names f made t rest due number may = may.numbered t rest due ∙ number
 
-pub has-places : (names : Names) (f : Operation) (made : Option Vid) (t : Thing) (rest : List Change) (n : Name) → f.due ≡ Make t ∷ rest → built_name f.key t ≡ Some n → MayTake f made names → length (to_list made) ≤ places_of names n
-has-places names f made t rest n due builds may = (may.builds t rest n due builds).1
+pub has-places : (names : Names) (f : Operation) (made : Option Vid) (t : Thing) (rest : List Change) (n : Name) → f.due ≡ Make t ∷ rest → built_name f.key t ≡ Some n → (MayBeLive names f.worker n f.now (to_list made) → (state_of names n ≡ state.Building f.worker) × (length (to_list made) ≤ places_of names n)) → MayTake f made names → length (to_list made) ≤ places_of names n
+has-places names f made t rest n due builds built may = (built (may.builds t rest n due builds)).1
+
+pub has-builder : (names : Names) (f : Operation) (made : Option Vid) (t : Thing) (rest : List Change) (n : Name) → f.due ≡ Make t ∷ rest → built_name f.key t ≡ Some n → (MayBeLive names f.worker n f.now (to_list made) → (state_of names n ≡ state.Building f.worker) × (length (to_list made) ≤ places_of names n)) → MayTake f made names → state_of names n ≡ state.Building f.worker
+has-builder names f made t rest n due builds built may = (built (may.builds t rest n due builds)).0

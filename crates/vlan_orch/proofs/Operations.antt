@@ -7,8 +7,8 @@ use Rattle.swss_types.proofs.SameValues.{tagging_exact}
 use Rattle.table_schema.specs.Plan.{Ports}
 use Rattle.table_schema.specs.declared.key.Key.{Key}
 use Rattle.table_schema.specs.declared.key.Key.TheVariants as key
-use Rattle.table_schema.specs.declared.row.Row.{Row}
-use Rattle.table_schema.specs.declared.row.Row.TheVariants as row
+use Rattle.switch_model.specs.Placed.{Placed as Row}
+use Rattle.switch_model.specs.Placed as row
 use Rattle.sai_types.specs.Alike.{IsIn}
 use Rattle.sai_types.specs.declared.thing.Thing.{Thing}
 use Rattle.sai_types.specs.declared.thing.Thing.TheVariants as thing

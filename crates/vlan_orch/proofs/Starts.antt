@@ -2,12 +2,12 @@
 use Rattle.std.proofs.Common.{◌≡◌, ℕ, Bool, true, false, List, [], ◌∷◌, Option, Some, None, is_some, option_map, Result, Ok, IfOk, IfErr, OnOk, OnErr, refl, sym, ap, subst, ◌∙◌, Bor}
 use Rattle.swss_types.specs.declared.out_of_memory.OutOfMemory.{OutOfMemory}
 use Rattle.swss_types.specs.declared.tagging.Tagging.{Tagging}
-use Rattle.table_schema.specs.Names.{names_of}
 use Rattle.table_schema.specs.Plan.{Ports}
 use Rattle.table_schema.specs.declared.key.Key.{Key}
 use Rattle.table_schema.specs.declared.key.Key.TheVariants as key
-use Rattle.table_schema.specs.declared.row.Row.{Row}
-use Rattle.table_schema.specs.declared.row.Row.TheVariants as row
+use Rattle.table_schema.specs.declared.row.Row.{Row as BareRow}
+use Rattle.switch_model.specs.Placed.{Placed as Row}
+use Rattle.switch_model.specs.Placed as row
 use Rattle.sai_types.specs.declared.thing.Thing.TheVariants as thing
 use Rattle.switch_model.specs.Things.{lane_of}
 use Rattle.switch_model.specs.declared.wait.Wait.{Wait}
@@ -22,9 +22,9 @@ use Rattle.ref_counts.specs.declared.name.NameState.TheVariants as state
 use Rattle.ref_counts.specs.Registered as registered
 use Rattle.ref_counts.specs.Registry.{Names, changed, retire_refusal_at, state_of}
 use Rattle.ref_counts.specs.Room.{Reserves, RoomState}
-use Rattle.orch_flight.specs.Needing.{absent_or, first_absent, first_unapplied, places_for, row_reason, to_build, wait_of}
+use Rattle.orch_flight.specs.Needing.{absent_or, first_absent, first_unapplied, places_for, row_names, row_reason, to_build, wait_of}
 use Rattle.orch_flight.specs.Sharing.{MayStart, begun_by, lacks_shared, owners_of}
-use Rattle.orch_flight.specs.Starting.{IsBegunBy, IsStartedBy, first_due, first_left, leaving, started_names, started_names_by}
+use Rattle.orch_flight.specs.Starting.{IsBegunBy, IsStartedBy, first_due, first_left, leaving, started_names, started_names_by, in_default}
 use Rattle.orch_flight.specs.Taking.{to_list}
 use Rattle.orch_flight.proofs.Begins.{begun-removal, names-plain, no_places, none-missing, places-set, places-taken}
 use Rattle.orch_flight.proofs.Rows.{built_of, row-begins, row-builds}
@@ -32,11 +32,11 @@ use Rattle.vlan_orch.specs.Vlans.{IsVlanStart, IsOfVlan, IsVlanKey, subject_oper
 use Rattle.vlan_orch.proofs.Operations.{AreLive, FitsAll, bridge-live, bridges, first-operation, keeps-bridge, members}
 use Rattle.vlan_orch.specs.declared.steps.VlanSubject.{VlanSubject}
 
--- the rows behind references
-abbrev pub rows : Option (Bor Row) → Option Row
-rows o = option_map (λ r. r.now) o
+-- the rows behind references, in their places
+abbrev pub rows : Option (Bor BareRow) → Option Row
+rows o = in_default (option_map (λ r. r.now) o)
 
-pub some-rows : (applied : Bool) (o : Option (Bor Row)) → applied ≡ is_some o → applied ≡ is_some (rows o)
+pub some-rows : (applied : Bool) (o : Option (Bor BareRow)) → applied ≡ is_some o → applied ≡ is_some (rows o)
 some-rows applied None is = is
 some-rows applied (Some r) is = is
 
@@ -76,11 +76,11 @@ module _ (plan : Ports) (names : Names) (room : RoomState) (used : List ℕ) (wo
   vlan-leaves v (Some a) r = refl
 
   pub vlan-start : (k : Key) (old : Option Row) (r : Row) (applied : Bool) (need : List ℕ) (names' : Names) (room' : RoomState) (res : Result (Result (Unit {0}) Wait) OutOfMemory)
-      → IsOfVlan k → FitsAll plan k old → (first_unapplied names (names_of k r) ≡ None → Fits plan k r) → applied ≡ is_some old → need ≡ places_of_vlan applied → Told k [] applied None need names' room' res
+      → IsOfVlan k → FitsAll plan k old → (first_unapplied names (row_names k r) ≡ None → Fits plan k r) → applied ≡ is_some old → need ≡ places_of_vlan applied → Told k [] applied None need names' room' res
       → IfOk res (λ a. IsBegunBy plan names room used worker k old (Some r) a names' room')
   vlan-start (key.Vlan v) old r applied need names' room' res is fits_old fits some needs told =
       let (free, begun, places, waits, same, same_room) = subst (λ b. Told (key.Vlan v) [] b None need names' room' res) some told in
-      row-begins plan names room used worker (key.Vlan v) old r None need names' room' res refl
+      row-begins plan names room used worker (key.Vlan v) old r None need names' room' res refl refl
       (λ none. vlan-leaves v old r) (λ none. vlan-places v old r fits_old (fits none) ∙ sym (needs ∙ ap places_of_vlan some)) free begun places waits same same_room
   vlan-start k old r applied need names' room' res is fits_old fits some needs told = elim is [ ]
 
@@ -124,7 +124,7 @@ module _ (plan : Ports) (names : Names) (room : RoomState) (used : List ℕ) (wo
     -- what is told of a member's row that starts
     abbrev StartsAs : Option Row → Row → Bool → Option Name → List ℕ → Names → RoomState → Result (Result (Unit {0}) Wait) OutOfMemory → Key → Type 0
     StartsAs old r applied shared need names' room' res k =
-        FitsAll plan k old → AreLive plan names k old → (first_unapplied names (names_of k r) ≡ None → Fits plan k r) → uses plan k r ≡ owners_of shared → Told k named applied shared need names' room' res
+        FitsAll plan k old → AreLive plan names k old → (first_unapplied names (row_names k r) ≡ None → Fits plan k r) → uses plan k r ≡ owners_of shared → Told k named applied shared need names' room' res
         → IfOk res (λ a. IsBegunBy plan names room used worker k old (Some r) a names' room')
 
     pub member-start : (k : Key) (old : Option Row) (r : Row) (applied : Bool) (shared : Option Name) (need : List ℕ) (names' : Names) (room' : RoomState) (res : Result (Result (Unit {0}) Wait) OutOfMemory)
@@ -136,7 +136,7 @@ module _ (plan : Ports) (names : Names) (room : RoomState) (used : List ℕ) (wo
             let (free, begun, places, waits, same, same_room) = subst (λ b. Told member_key named b shared need names' room' res) some told in
             let needed : places_of_member (is_some old) (is_some (to_build plan names member_key (Some r))) ≡ need =
             sym (needs ∙ ap (λ b. places_of_member b (lacks_shared names shared)) some ∙ ap (places_of_member (is_some old)) (builds-where plan names member_key r shared shares)) in
-            row-begins plan names room used worker member_key old r shared need names' room' res shares
+            row-begins plan names room used worker member_key old r shared need names' room' res shares refl
             (λ none. member-leaves old r fits_old (fits none)) (λ none. member-places old r fits_old live (fits none) ∙ needed) free begun places waits same same_room
 
   -- ---- a row that is to go
@@ -167,7 +167,7 @@ module _ (plan : Ports) (names : Names) (room : RoomState) (used : List ℕ) (wo
   pub begun-fits : (k : Key) (old new : Option Row) (names' : Names) (room' : RoomState) (begun : Result (Unit {0}) Wait) (x : Unit {0}) → begun ≡ Ok x → MayStart plan names worker k old new → IsBegunBy plan names room used worker k old new begun names' room' → FitsAll plan k new
   begun-fits k old new names' room' begun x is may told r same =
       let none = (subst (λ a. IsBegunBy plan names room used worker k old new a names' room') is told).0 in
-      may.new_fits r same (none-missing (first_unapplied names (names_of k r)) _ (subst (λ n. wait_of plan names room used worker k old n ≡ None) same none))
+      may.new_fits r same (none-missing (first_unapplied names (row_names k r)) _ (subst (λ n. wait_of plan names room used worker k old n ≡ None) same none))
 
   -- what began, with the operation
   pub started-as : (k : Key) (old new : Option Row) (builds : Bool) (s : VlanSubject) (names' : Names) (room' : RoomState) (begun : Result (Unit {0}) Wait) (x : Unit {0}) → begun ≡ Ok x → MayStart plan names worker k old new → builds ≡ is_some (to_build plan names k new) → IsVlanStart plan k old new builds s

@@ -5,8 +5,8 @@ use Rattle.swss_types.specs.declared.tagging.Tagging.{Tagging}
 use Rattle.table_schema.specs.Plan.{Ports}
 use Rattle.table_schema.specs.declared.key.Key.{Key}
 use Rattle.table_schema.specs.declared.key.Key.TheVariants as key
-use Rattle.table_schema.specs.declared.row.Row.{Row}
-use Rattle.table_schema.specs.declared.row.Row.TheVariants as row
+use Rattle.switch_model.specs.Placed.{Placed as Row}
+use Rattle.switch_model.specs.Placed as row
 use Rattle.sai_types.specs.declared.thing.Thing.TheVariants as thing
 use Rattle.sai_types.specs.Names as thing_name
 use Rattle.switch_model.specs.Things.{lane_of}

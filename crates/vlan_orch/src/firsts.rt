@@ -2,8 +2,10 @@
 ghost use Rattle.std.specs.Prelude.{◌≡◌, None, Some, IsSome, option_map};
 ghost use Rattle.switch_machine.specs.Flights.{Fits};
 ghost use Rattle.switch_model.specs.Things.{lane_of};
-ghost use Rattle.table_schema.specs.declared.row.Row.{Row};
+ghost use Rattle.switch_model.specs.Placed as placed;
+ghost use Rattle.switch_model.specs.Placed.{Placed};
 ghost use Rattle.vlan_orch.specs.Vlans.{IsVlanStart, IsFirstMember, IsMemberRow, IsVlanKey, first_vlan};
+ghost use Rattle.orch_flight.specs.Starting.{in_default};
 
 use crate::steps::{MemberStep, Membership, VlanStep, VlanSubject};
 use orch_flight::lane_of;
@@ -19,10 +21,10 @@ pub fn first(
     builds: bool,
 ) -> VlanSubject
     requires vlan { IsVlanKey key.now }
-    requires some { option_map (λ r. r.now) old ≡ None → option_map (λ r. r.now) new ≡ None → ⊥ }
-    requires old { (r : Row) → option_map (λ r. r.now) old ≡ Some r → Fits plan.now key.now r }
-    requires new { (r : Row) → option_map (λ r. r.now) new ≡ Some r → Fits plan.now key.now r }
-    ensures { IsVlanStart plan.now key.now (option_map (λ r. r.now) old.entry) (option_map (λ r. r.now) new.entry) builds result }
+    requires some { in_default (option_map (λ r. r.now) old) ≡ None → in_default (option_map (λ r. r.now) new) ≡ None → ⊥ }
+    requires old { (r : Placed) → in_default (option_map (λ r. r.now) old) ≡ Some r → Fits plan.now key.now r }
+    requires new { (r : Placed) → in_default (option_map (λ r. r.now) new) ≡ Some r → Fits plan.now key.now r }
+    ensures { IsVlanStart plan.now key.now (in_default (option_map (λ r. r.now) old.entry)) (in_default (option_map (λ r. r.now) new.entry)) builds result }
 {
     match key {
         Key::Vlan(vlan) => VlanSubject::Vlan(*vlan, first_vlan(old, new)),
@@ -40,7 +42,7 @@ pub fn first(
 
 /// How far a VLAN's operation is that starts.
 fn first_vlan(old: Option<&Row>, new: Option<&Row>) -> VlanStep
-    ensures { result ≡ first_vlan (option_map (λ r. r.now) old.entry) (option_map (λ r. r.now) new.entry) }
+    ensures { result ≡ first_vlan (in_default (option_map (λ r. r.now) old.entry)) (in_default (option_map (λ r. r.now) new.entry)) }
 {
     match (old, new) {
         (None, _) => VlanStep::Add,
@@ -76,8 +78,8 @@ fn first_member(old: Option<Tagging>, new: Option<Tagging>, builds: bool) -> Mem
 
 /// The tagging of a member's row, where there is one.
 fn tagging_of(row: Option<&Row>) -> Option<Tagging>
-    requires { IsMemberRow (option_map (λ r. r.now) row) }
-    ensures { option_map Row.Member result ≡ option_map (λ r. r.now) row.entry }
+    requires { IsMemberRow (in_default (option_map (λ r. r.now) row)) }
+    ensures { option_map placed.Member result ≡ in_default (option_map (λ r. r.now) row.entry) }
 {
     match row {
         Some(Row::Member(tagging)) => Some(*tagging),

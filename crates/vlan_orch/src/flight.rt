@@ -3,7 +3,7 @@ ghost use Rattle.std.specs.Prelude.{◌≡◌, ◌↔◌, [], option_map, IfOk, 
 ghost use Rattle.table_schema.specs.Plan.{Ports};
 ghost use Rattle.orch_flight.specs.Calling.{IsNextOf, IsOver, KnowsIds};
 ghost use Rattle.orch_flight.specs.Sharing.{MayStart};
-ghost use Rattle.orch_flight.specs.Starting.{IsStartedBy};
+ghost use Rattle.orch_flight.specs.Starting.{IsStartedBy, in_default};
 ghost use Rattle.orch_flight.specs.Taking.{IsTook, MayTake};
 ghost use Rattle.vlan_orch.specs.Vlans.{IsVlanKey};
 
@@ -50,8 +50,8 @@ impl VlanFlight {
         new: Option<&Row>,
     ) -> Result<Result<VlanFlight, Wait>, OutOfMemory>
         requires vlan { IsVlanKey key.now }
-        requires may { MayStart plan.now reg.old worker key.now (option_map (λ r. r.now) old) (option_map (λ r. r.now) new) }
-        ensures started { IfOk result (λ answer. IsStartedBy plan.now reg.old room.old used.now worker key.now (option_map (λ r. r.now) old.entry) (option_map (λ r. r.now) new.entry) answer reg.new room.new) }
+        requires may { MayStart plan.now reg.old worker key.now (in_default (option_map (λ r. r.now) old)) (in_default (option_map (λ r. r.now) new)) }
+        ensures started { IfOk result (λ answer. IsStartedBy plan.now reg.old room.old used.now worker key.now (in_default (option_map (λ r. r.now) old.entry)) (in_default (option_map (λ r. r.now) new.entry)) answer reg.new room.new) }
         ensures err { OnErr result (reg.new ≡ reg.old) }
         ensures err_room { OnErr result (room.new ≡ room.old) }
     {

@@ -1,10 +1,12 @@
 // How the operation of a VLAN, or of a member of one, starts.
 ghost use Rattle.std.specs.Prelude.{◌≡◌, Some, is_some, option_map, IfOk, OnErr};
 ghost use Rattle.table_schema.specs.declared.key.Key.{Key};
+ghost use Rattle.swss_types.specs.declared.vrf.Vrf.TheVariants as vrf;
+ghost use Rattle.switch_model.specs.Placed.{place};
 ghost use Rattle.row_layout.specs.Shared.{uses};
 ghost use Rattle.orch_flight.specs.Needing.{to_build};
 ghost use Rattle.orch_flight.specs.Sharing.{MayStart, owners_of};
-ghost use Rattle.orch_flight.specs.Starting.{IsBegunBy};
+ghost use Rattle.orch_flight.specs.Starting.{IsBegunBy, in_default};
 ghost use Rattle.vlan_orch.specs.Vlans.{IsOfVlan, IsVlanKey, places_of_member, places_of_vlan};
 
 use orch_flight::{bridge_of, lacks, start_row, start_sharing, try_remove};
@@ -38,8 +40,8 @@ pub fn begin(
     new: Option<&Row>,
 ) -> Result<Result<(), Wait>, OutOfMemory>
     requires vlan { IsVlanKey key.now }
-    requires may { MayStart plan.now reg.old worker key.now (option_map (λ r. r.now) old) (option_map (λ r. r.now) new) }
-    ensures begun { IfOk result (λ answer. IsBegunBy plan.now reg.old room.old used.now worker key.now (option_map (λ r. r.now) old.entry) (option_map (λ r. r.now) new.entry) answer reg.new room.new) }
+    requires may { MayStart plan.now reg.old worker key.now (in_default (option_map (λ r. r.now) old)) (in_default (option_map (λ r. r.now) new)) }
+    ensures begun { IfOk result (λ answer. IsBegunBy plan.now reg.old room.old used.now worker key.now (in_default (option_map (λ r. r.now) old.entry)) (in_default (option_map (λ r. r.now) new.entry)) answer reg.new room.new) }
     ensures err { OnErr result (reg.new ≡ reg.old) }
     ensures err_room { OnErr result (room.new ≡ room.old) }
 {
@@ -61,8 +63,8 @@ fn begin_new(
     new: &Row,
 ) -> Result<Result<(), Wait>, OutOfMemory>
     requires vlan { IsVlanKey key.now }
-    requires may { MayStart plan.now reg.old worker key.now (option_map (λ r. r.now) old) (Some new.now) }
-    ensures begun { IfOk result (λ answer. IsBegunBy plan.now reg.old room.old used.now worker key.now (option_map (λ r. r.now) old.entry) (Some new.now) answer reg.new room.new) }
+    requires may { MayStart plan.now reg.old worker key.now (in_default (option_map (λ r. r.now) old)) (in_default (Some new.now)) }
+    ensures begun { IfOk result (λ answer. IsBegunBy plan.now reg.old room.old used.now worker key.now (in_default (option_map (λ r. r.now) old.entry)) (in_default (Some new.now)) answer reg.new room.new) }
     ensures err { OnErr result (reg.new ≡ reg.old) }
     ensures err_room { OnErr result (room.new ≡ room.old) }
 {
@@ -87,8 +89,8 @@ fn begin_vlan(
     _new: &Row,
 ) -> Result<Result<(), Wait>, OutOfMemory>
     requires vlan { IsOfVlan key.now }
-    requires may { MayStart _plan.now reg.old worker key.now (option_map (λ r. r.now) old) (Some _new.now) }
-    ensures begun { IfOk result (λ answer. IsBegunBy _plan.now reg.old room.old used.now worker key.now (option_map (λ r. r.now) old.entry) (Some _new.now) answer reg.new room.new) }
+    requires may { MayStart _plan.now reg.old worker key.now (in_default (option_map (λ r. r.now) old)) (in_default (Some _new.now)) }
+    ensures begun { IfOk result (λ answer. IsBegunBy _plan.now reg.old room.old used.now worker key.now (in_default (option_map (λ r. r.now) old.entry)) (in_default (Some _new.now)) answer reg.new room.new) }
     ensures err { OnErr result (reg.new ≡ reg.old) }
     ensures err_room { OnErr result (room.new ≡ room.old) }
 {
@@ -111,8 +113,8 @@ fn begin_member(
     new: &Row,
 ) -> Result<Result<(), Wait>, OutOfMemory>
     requires member { key.now ≡ Key.Member vlan port }
-    requires may { MayStart plan.now reg.old worker key.now (option_map (λ r. r.now) old) (Some new.now) }
-    ensures begun { IfOk result (λ answer. IsBegunBy plan.now reg.old room.old used.now worker key.now (option_map (λ r. r.now) old.entry) (Some new.now) answer reg.new room.new) }
+    requires may { MayStart plan.now reg.old worker key.now (in_default (option_map (λ r. r.now) old)) (in_default (Some new.now)) }
+    ensures begun { IfOk result (λ answer. IsBegunBy plan.now reg.old room.old used.now worker key.now (in_default (option_map (λ r. r.now) old.entry)) (in_default (Some new.now)) answer reg.new room.new) }
     ensures err { OnErr result (reg.new ≡ reg.old) }
     ensures err_room { OnErr result (room.new ≡ room.old) }
 {
@@ -130,7 +132,7 @@ fn begin_member(
 /// The bridge port that a row shares: none of a VLAN, nor of a member on a port that is not in the plan.
 fn shared_by(plan: &PortPlan, key: &Key, row: &Row) -> Option<Name>
     requires { IsVlanKey key.now }
-    ensures { uses plan.now key.now row.now ≡ owners_of result }
+    ensures { uses plan.now key.now (place vrf.Default row.now) ≡ owners_of result }
 {
     match (key, row) {
         (Key::Member(_, port), Row::Member(_)) => bridge_of(plan, *port),
@@ -141,7 +143,7 @@ fn shared_by(plan: &PortPlan, key: &Key, row: &Row) -> Option<Name>
 /// Whether nothing is there of the bridge port that the row shares which is to be applied.
 pub fn builds_bridge(plan: &PortPlan, reg: &Registry, key: &Key, new: Option<&Row>) -> bool
     requires { IsVlanKey key.now }
-    ensures { result ≡ is_some (to_build plan.now reg.now key.now (option_map (λ r. r.now) new.entry)) }
+    ensures { result ≡ is_some (to_build plan.now reg.now key.now (in_default (option_map (λ r. r.now) new.entry))) }
 {
     match new {
         Some(row) => lacks(reg, &shared_by(plan, key, row)),

@@ -4,8 +4,8 @@ ghost use Rattle.std.specs.BTreeSet.{insert_key};
 ghost use Rattle.sai_types.specs.declared.thing.Goal.TheVariants as goal;
 ghost use Rattle.sai_types.specs.declared.thing.Thing.TheVariants as thing;
 ghost use Rattle.sai_types.specs.Order.{thing_cmp};
+ghost use Rattle.switch_model.specs.Placed.{place};
 ghost use Rattle.switch_model.specs.Things.{address_things, base_of, from_base, from_lane, hops_of, lane_of, members_of, route_things, route_to, things_of, whop_of};
-ghost use Rattle.swss_types.specs.declared.vrf.Vrf.TheVariants as vrf;
 ghost use Rattle.table_schema.specs.Hop.{HaveWeights};
 ghost use Rattle.want_view.specs.Walk.{with_things};
 
@@ -15,15 +15,16 @@ use std::collections::BTreeSet;
 use swss_types::{IfName, Ip, Mac, OutOfMemory, Prefix, Tagging, Vrf};
 use table_schema::{Key, PortPlan, PortRow, RouteRow, Row, RowHop};
 
-/// Puts the things of a row.
+/// Puts the things of a row, of an address in this virtual router.
 pub(crate) fn put_things(
     alloc: Global,
     plan: &PortPlan,
     things: &mut BTreeSet<Thing>,
+    vrf: Vrf,
     key: &Key,
     row: &Row,
 ) -> Result<(), OutOfMemory>
-    ensures { OnOk result (things.new.keys ≡ with_things things.old.keys (things_of plan.now key.now row.now)) }
+    ensures { OnOk result (things.new.keys ≡ with_things things.old.keys (things_of plan.now key.now (place vrf row.now))) }
 {
     match (key, row) {
         (Key::Port(port), Row::Port(row)) => put_port(plan, things, *port, row),
@@ -32,8 +33,8 @@ pub(crate) fn put_things(
         (Key::Member(vlan, port), Row::Member(tagging)) => {
             put_member(plan, things, *vlan, *port, *tagging)
         }
-        (Key::Intf(on), Row::Intf) => put_interface(plan, things, *on),
-        (Key::Addr(on, ip, _), Row::Addr) => put_address(plan, things, *on, *ip),
+        (Key::Intf(on), Row::Intf(vrf)) => put_interface(plan, things, *on, *vrf),
+        (Key::Addr(on, ip, _), Row::Addr) => put_address(plan, things, *on, vrf, *ip),
         (Key::Neigh(on, ip), Row::Neigh(mac)) => put_neighbor(plan, things, *on, *ip, mac),
         (Key::Route(vrf, prefix), Row::Route(target)) => {
             put_route(alloc, plan, things, *vrf, *prefix, target)
@@ -93,11 +94,12 @@ fn put_interface(
     plan: &PortPlan,
     things: &mut BTreeSet<Thing>,
     on: IfName,
+    vrf: Vrf,
 ) -> Result<(), OutOfMemory>
-    ensures { OnOk result (things.new.keys ≡ with_things things.old.keys (from_base (λ b. thing.Rif b vrf.Default ∷ []) (base_of plan.now on))) }
+    ensures { OnOk result (things.new.keys ≡ with_things things.old.keys (from_base (λ b. thing.Rif b vrf ∷ []) (base_of plan.now on))) }
 {
     match base_of(plan, on) {
-        Some(base) => put(things, Thing::Rif(base, Vrf::Default)),
+        Some(base) => put(things, Thing::Rif(base, vrf)),
         None => Ok(()),
     }
 }
@@ -107,16 +109,17 @@ fn put_address(
     plan: &PortPlan,
     things: &mut BTreeSet<Thing>,
     on: IfName,
+    vrf: Vrf,
     ip: Ip,
 ) -> Result<(), OutOfMemory>
-    ensures { OnOk result (things.new.keys ≡ with_things things.old.keys (address_things plan.now on ip)) }
+    ensures { OnOk result (things.new.keys ≡ with_things things.old.keys (address_things plan.now on vrf ip)) }
 {
     if let IfName::Ethernet(port) = on {
         if lane_of(plan, port).is_none() {
             return Ok(());
         }
     }
-    put(things, Thing::Own(Vrf::Default, ip))
+    put(things, Thing::Own(vrf, ip))
 }
 
 /// Puts a neighbour and its next hop.

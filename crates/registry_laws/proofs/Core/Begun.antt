@@ -68,6 +68,7 @@ module _ (plan : Ports) (capacities : List ℕ) (names : Names) (room : RoomStat
     board = board_begun x.group refl;
     identified = flown_identified plan names rid flown s.machine.stands stands.identified (put w (Some (with_group_begun plan names x)) flown) (puts_kept flown w (Some (with_group_begun plan names x)) (λ g here builds. (with_group_begun plan names x, refl, kept g here)));
     whole = stands.whole;
+    interfaces = stands.interfaces;
   }
     where
       kept : (g : GroupOperation) → IsUnderWay flown w g → group_or x.group (begins (group_to_build plan names f) (group_to_take f)) ≡ Some g

@@ -1,5 +1,6 @@
 -- before the first event, and events that leave the machine as it is
 use Rattle.std.proofs.Common.{◌≡◌, ◌⊎◌, inl, inr, ℕ, List, [], Option, None, refl, sym, subst}
+use Rattle.std.proofs.lemmas.Bool.{false≢true}
 use Rattle.table_schema.specs.Plan.{IsPlan, Ports}
 use Rattle.table_schema.specs.declared.key.Key.{Key}
 use Rattle.sai_types.specs.declared.ids.Rid.{Rid}
@@ -25,6 +26,7 @@ module _ (plan : Ports) (is : IsPlan plan) (capacities : List ℕ) (rid : Vid �
     board = board_nothing plan capacities;
     identified = record { each = λ i t h. elim h [ ] };
     whole = record { each = λ hops. inl refl };
+    interfaces = record { each = λ n there. absurd (false≢true there) };
   }
 
   pub stands_first : StandsFor plan capacities [] (all_free capacities) (λ w. None) rid empty_switch
@@ -41,6 +43,7 @@ module _ (plan : Ports) (is : IsPlan plan) (capacities : List ℕ) (names : Name
     board = subst (KnowsBoard plan capacities names room flown) (sym same) stands.board;
     identified = subst (λ (m : Machine). Identified plan names rid flown m.stands) (sym same) stands.identified;
     whole = stands.whole;
+    interfaces = stands.interfaces;
   }
 
   pub stands_taken : IsTake s t → StandsFor plan capacities names room flown rid t

@@ -4,12 +4,13 @@ use Rattle.std.specs.BTreeMap.{is_at}
 use Rattle.std.specs.Map.{remove_entry}
 use Rattle.table_schema.specs.Plan.{Ports}
 use Rattle.table_schema.specs.declared.key.Key.{Key}
-use Rattle.table_schema.specs.declared.row.Row.{Row}
+use Rattle.table_schema.specs.Fields.{HasRisingKeys}
 use Rattle.sai_types.specs.declared.ids.Rid.{Rid}
 use Rattle.sai_types.specs.declared.ids.Vid.{Vid}
 use Rattle.sai_types.specs.declared.thing.Thing.{Thing}
 use Rattle.sai_types.specs.Alike.{IsIn}
 use Rattle.sai_types.specs.Names.{name_of}
+use Rattle.switch_model.specs.Placed.{Placed as Row}
 use Rattle.row_layout.specs.Rows as owner
 use Rattle.switch_machine.specs.Consistent.{IsConsistent}
 use Rattle.switch_machine.specs.Flights.{IsOwnedBy, Machine, own_of}
@@ -18,7 +19,7 @@ use Rattle.ref_counts.specs.declared.name.NameState.{NameState}
 use Rattle.ref_counts.specs.declared.name.NameState.TheVariants as state
 use Rattle.ref_counts.specs.Registry.{Names, ids_of, is_retiring, registered_name_cmp, registered_at, state_in, state_of}
 use Rattle.orch_flight.specs.Needing.{name_for}
-use Rattle.registry_laws.specs.Ending.{ended_names, named_by, users_dropped, users_passed}
+use Rattle.registry_laws.specs.Ending.{ended_names, named_by, users_dropped, users_passed, MayEnd}
 use Rattle.registry_laws.specs.Flown.{Flown}
 use Rattle.registry_laws.specs.Known.{RowStands}
 use Rattle.registry_laws.specs.Registers.{KnowsNames}
@@ -27,6 +28,9 @@ use Rattle.registry_laws.proofs.Finding.{gone_at}
 use Rattle.registry_laws.specs.Identified.{HaveSameIds, Identified}
 use Rattle.registry_laws.proofs.Identifier.Starting.{ids_ended, ids_ended_off, ids_passed}
 use Rattle.registry_laws.proofs.Identifier.Staying.{same_identified, vid_kept}
+
+pub passed_rising : (names : Names) (w : ℕ) (k : Key) (old : Option Row) → AreFine names → HasRisingKeys registered_name_cmp (users_passed names w k old)
+passed_rising names w k old fine = (released_fine w (users_dropped names k (named_by k old)) (dropped_fine k (named_by k old) names fine)).rising
 
 module _ (plan : Ports) (t : Machine) (sound : IsConsistent plan t) (names : Names) (fine : AreFine names) (w : ℕ) (k : Key) (old : Option Row) where
   abbrev passed : Names
@@ -57,6 +61,6 @@ module _ (plan : Ports) (t : Machine) (sound : IsConsistent plan t) (names : Nam
         none : (i : Rid) (u : Thing) → IsIn (i, u) t.stands → IsOwnedBy plan (name_of u) (owner.OfRow k) → ⊥
         none i u h own = nothing_of (subst (RowStands t k) (ap state_in absent) (knows.rows k).stands) i u h own
 
-    pub ended_identified : (new : Option Row) → KnowsNames plan (ended_names names w k old new) t → Identified plan (ended_names names w k old new) rid flown t.stands
-    ended_identified (Some r) knows = same_identified plan names rid flown t.stands known (ended_names names w k old (Some r)) (ids_ended names w k old r)
-    ended_identified None knows = gone_identified knows (absent_or (state_of passed (name.Row k)) refl)
+    pub ended_identified : (new : Option Row) → MayEnd names w k new → KnowsNames plan (ended_names names w k old new) t → Identified plan (ended_names names w k old new) rid flown t.stands
+    ended_identified (Some r) may knows = same_identified plan names rid flown t.stands known (ended_names names w k old (Some r)) (ids_ended names w k old r may)
+    ended_identified None may knows = gone_identified knows (absent_or (state_of passed (name.Row k)) refl)

@@ -34,7 +34,7 @@ use Rattle.registry_laws.proofs.Replies.{group_goes_on, group_is_built, group_is
 use Rattle.registry_laws.proofs.Settled.{nothing_behind}
 use Rattle.registry_laws.proofs.Taking.{group_due}
 use Rattle.registry_laws.proofs.Listing.{some_of_due}
-use Rattle.registry_laws.specs.Identified.{FliesOn, HasWholeGroups, Identified, IsPartlyBuilt, IsUnderWay, KeepsBuilds, TiesAfter, tie_by}
+use Rattle.registry_laws.specs.Identified.{FliesOn, HasWholeGroups, Identified, IsPartlyBuilt, IsUnderWay, KeepsBuilds, TiesAfter, tie_by, HasWholeInterfaces}
 use Rattle.registry_laws.proofs.Identifier.GroupTook.{built_took, taken_took}
 use Rattle.registry_laws.proofs.Identifier.Known.{group_goes, one_way}
 use Rattle.registry_laws.proofs.Identifier.Staying.{flown_identified, puts_kept}
@@ -46,6 +46,7 @@ use Rattle.registry_laws.proofs.Core.Making.{Answers, Both, On, Over, answer, la
 use Rattle.registry_laws.proofs.Core.Nexts.{builds, goes_alone, group_due_is, grouped, makes_next, own_later, own_next, retires_it, takes_next}
 use Rattle.registry_laws.proofs.Core.Parts.{built_part}
 use Rattle.registry_laws.proofs.Core.Taken.{group_number}
+use Rattle.registry_laws.proofs.Identifier.Interfaces.{interfaces_grouped}
 
 module _ (plan : Ports) (is : IsPlan plan) (capacities : List ℕ) (names : Names) (room : RoomState) (flown : ℕ → Option Flown) (rid : Vid → Option Rid) (s : SwitchState) (stands : StandsFor plan capacities names room flown rid s) (w : ℕ) (x : Flown) (at : flown w ≡ Some x) (c : Call Vid) (made : Option Vid) (rid' : Vid → Option Rid) (number : is_some made ≡ makes_id c) (ties : TiesFollowCall rid rid' c made (next_rid s.made)) (g : GroupOperation) (has : x.group ≡ Some g) (told : IsNextCall plan names x.operation (Some g) c) (g' : GroupOperation) (names' : Names) (took : IsGroupTook g made names g' names') where
   abbrev f : Operation
@@ -107,6 +108,9 @@ module _ (plan : Ports) (is : IsPlan plan) (capacities : List ℕ) (names : Name
   abbrev Now : Option GroupOperation → Type 0
   Now v = Both plan capacities rid rid' flown room s w c names' (flown_as f v)
 
+  interfaces : HasWholeInterfaces names'
+  interfaces = interfaces_grouped names names' g g' made took stands.interfaces
+
   -- ---- the group is built
 
   module _ (b : g.builds ≡ true) where
@@ -131,10 +135,10 @@ module _ (plan : Ports) (is : IsPlan plan) (capacities : List ℕ) (names : Name
         on some =
             let z = group_goes_on plan is capacities m stands.safe.sound names room flown stands.board w x at y.change y.rest stands' (moves plan is capacities names room flown rid s stands w x at c (HasGroupVid plan names g) (shared_things (owner.Group g.hops)) y) made g has g' names' took counted (λ e. some_of_due d ds (sym more ∙ e)) in
             let own : (g'.due ≡ [] → ⊥) → Some g' ≡ Some g' = λ h. refl in
-            (z.0, answers z.0 z.1, stands_on plan capacities rid rid' flown room s w c names' is stands.safe z.0 (answers z.0 z.1) (whole_by (flown_as f (Some g')) own z.0 z.1) (flown_as f (Some g')) z.3 (known (flown_as f (Some g')) own z.0 z.1).0)
+            (z.0, answers z.0 z.1, stands_on plan capacities rid rid' flown room s w c names' is stands.safe z.0 (answers z.0 z.1) (whole_by (flown_as f (Some g')) own z.0 z.1) interfaces (flown_as f (Some g')) z.3 (known (flown_as f (Some g')) own z.0 z.1).0)
 
         over : Over plan capacities rid rid' flown room s w c names' (flown_as f (Some g'))
-        over given empty gives = some_of_due d (ds ++ f.due) (ap (λ l. l ++ f.due) (sym more) ∙ sym (group_due plan names' (flown_as f (Some g')) g' refl) ∙ empty)
+        over given may_end empty gives = some_of_due d (ds ++ f.due) (ap (λ l. l ++ f.due) (sym more) ∙ sym (group_due plan names' (flown_as f (Some g')) g' refl) ∙ empty)
 
     -- it is whole
     built_whole : g'.due ≡ [] → Now None
@@ -144,10 +148,10 @@ module _ (plan : Ports) (is : IsPlan plan) (capacities : List ℕ) (names : Name
         on some =
             let z = group_is_built plan is capacities m stands.safe.sound names room flown stands.board w x at y.change y.rest stands' (moves plan is capacities names room flown rid s stands w x at c (HasGroupVid plan names g) (shared_things (owner.Group g.hops)) y) made g has g' names' took b end in
             let own : (g'.due ≡ [] → ⊥) → None ≡ Some g' = λ h. absurd (h end) in
-            (z.0, answers z.0 z.1, stands_on plan capacities rid rid' flown room s w c names' is stands.safe z.0 (answers z.0 z.1) (whole_by (flown_as f None) own z.0 z.1) (flown_as f None) z.3 (known (flown_as f None) own z.0 z.1).0)
+            (z.0, answers z.0 z.1, stands_on plan capacities rid rid' flown room s w c names' is stands.safe z.0 (answers z.0 z.1) (whole_by (flown_as f None) own z.0 z.1) interfaces (flown_as f None) z.3 (known (flown_as f None) own z.0 z.1).0)
 
         over : Over plan capacities rid rid' flown room s w c names' (flown_as f None)
-        over given empty gives = absurd (own_later plan is capacities names room flown rid s stands w x at g has b (nothing_behind (whole_group (group_to_build plan names' f) (group_to_take f)) f.due empty))
+        over given may_end empty gives = absurd (own_later plan is capacities names room flown rid s stands w x at g has b (nothing_behind (whole_group (group_to_build plan names' f) (group_to_take f)) f.due empty))
 
   -- ---- the group goes
 
@@ -181,10 +185,10 @@ module _ (plan : Ports) (is : IsPlan plan) (capacities : List ℕ) (names : Name
         on : On plan capacities rid rid' flown room s w c names' (flown_as f (Some g'))
         on some =
             let z = group_goes_on plan is capacities m stands.safe.sound names room flown stands.board w x at y.change y.rest stands' (moves plan is capacities names room flown rid s stands w x at c (HasGroupVid plan names g) (shared_things (owner.Group g.hops)) y) made g has g' names' took counted (λ e. some_of_due d ds (sym more ∙ e)) in
-            (z.0, answers z.0 z.1, stands_on plan capacities rid rid' flown room s w c names' is stands.safe z.0 (answers z.0 z.1) gone_groups (flown_as f (Some g')) z.3 (gone_known (Some (flown_as f (Some g'))) z.0 z.1))
+            (z.0, answers z.0 z.1, stands_on plan capacities rid rid' flown room s w c names' is stands.safe z.0 (answers z.0 z.1) gone_groups interfaces (flown_as f (Some g')) z.3 (gone_known (Some (flown_as f (Some g'))) z.0 z.1))
 
         over : Over plan capacities rid rid' flown room s w c names' (flown_as f (Some g'))
-        over given empty gives = some_of_due d (ds ++ f.due) (ap (λ l. l ++ f.due) (sym more) ∙ sym (group_due plan names' (flown_as f (Some g')) g' refl) ∙ empty)
+        over given may_end empty gives = some_of_due d (ds ++ f.due) (ap (λ l. l ++ f.due) (sym more) ∙ sym (group_due plan names' (flown_as f (Some g')) g' refl) ∙ empty)
 
     -- it is gone
     gone_whole : g'.due ≡ [] → Now (Some g')
@@ -194,9 +198,9 @@ module _ (plan : Ports) (is : IsPlan plan) (capacities : List ℕ) (names : Name
         on some = absurd (some (group_due plan names' (flown_as f (Some g')) g' refl ∙ ap (λ l. l ++ f.due) end ∙ goes_alone plan is capacities names room flown rid s stands w x at g has goes))
 
         over : Over plan capacities rid rid' flown room s w c names' (flown_as f (Some g'))
-        over given empty gives =
+        over given may_end empty gives =
             let z = group_is_gone plan is capacities m stands.safe.sound names room flown stands.board w x at y.change y.rest stands' (moves plan is capacities names room flown rid s stands w x at c (HasGroupVid plan names g) (shared_things (owner.Group g.hops)) y) made g has g' names' took goes end given gives in
-            (z.0, answers z.0 z.1, stands_over plan capacities rid rid' flown room s w c names' is stands.safe z.0 (answers z.0 z.1) gone_groups f.key f.new given z.3 (gone_known None z.0 z.1) fine)
+            (z.0, answers z.0 z.1, stands_over plan capacities rid rid' flown room s w c names' is stands.safe z.0 (answers z.0 z.1) gone_groups interfaces f.key f.new given may_end z.3 (gone_known None z.0 z.1) fine)
 
   -- ---- by what is left of its operation
 

@@ -2,7 +2,6 @@
 use Rattle.std.proofs.Common.{◌≡◌, ◌∙◌, ℕ, true, List, [], Option, None, Some, is_some, refl, sym, ap}
 use Rattle.table_schema.specs.Plan.{IsPlan, Ports}
 use Rattle.table_schema.specs.declared.key.Key.{Key}
-use Rattle.table_schema.specs.declared.row.Row.{Row}
 use Rattle.sai_types.specs.declared.body.Attr.{Attr}
 use Rattle.sai_types.specs.declared.body.Body.{Body}
 use Rattle.sai_types.specs.declared.body.Call.{Call}
@@ -16,6 +15,7 @@ use Rattle.sai_types.specs.After.{makes_id}
 use Rattle.sai_types.specs.Names.{ThingName}
 use Rattle.chip_layout.specs.Layout.{Layout, has_number, listed, next_rid}
 use Rattle.chip_layout.specs.Renamed.{call_renamed}
+use Rattle.switch_model.specs.Placed.{Placed as Row}
 use Rattle.row_layout.specs.Operations.{Change, Make, Set, Take}
 use Rattle.switch_machine.specs.Changes.{IsCall}
 use Rattle.switch_machine.specs.Events.{Follows, IsAnswer, IsDueCall, IsGiven, IsSafe, SwitchState}
@@ -26,19 +26,20 @@ use Rattle.machine_laws.proofs.Completing.{Changed, change_made}
 use Rattle.ref_counts.specs.Registry.{Names}
 use Rattle.ref_counts.specs.Room.{GivesBack, RoomState}
 use Rattle.orch_flight.specs.Calling.{HasVid, IsCallFor}
-use Rattle.registry_laws.specs.Ending.{ended_names}
+use Rattle.registry_laws.specs.Ending.{ended_names, MayEnd}
 use Rattle.registry_laws.specs.Flown.{Flown, due_for, flight_of}
 use Rattle.registry_laws.specs.Flying.{KnowsBoard}
 use Rattle.registry_laws.proofs.Fine.{AreFine}
-use Rattle.registry_laws.specs.Identified.{HasWholeGroups, Identified, TiesAfter, tie_by}
+use Rattle.registry_laws.specs.Identified.{HasWholeGroups, Identified, TiesAfter, tie_by, HasWholeInterfaces}
 use Rattle.registry_laws.proofs.Identifier.Entering.{taken_entry}
 use Rattle.registry_laws.proofs.Identifier.Whole.{whole_ended}
 use Rattle.registry_laws.specs.Calls.{TiesFollowCall}
 use Rattle.registry_laws.specs.Standing.{StandsFor, with_answer}
 use Rattle.registry_laws.proofs.Core.Due.{IsNext}
-use Rattle.registry_laws.proofs.Core.Ended.{ended_identified}
+use Rattle.registry_laws.proofs.Core.Ended.{ended_identified, passed_rising}
 use Rattle.registry_laws.proofs.Core.Nexts.{below, its}
 use Rattle.registry_laws.proofs.Core.Taken.{making_number}
+use Rattle.registry_laws.proofs.Identifier.Interfaces.{interfaces_ended}
 
 -- ---- how identifiers are tied
 
@@ -111,22 +112,23 @@ module _ (plan : Ports) (capacities : List ℕ) (rid rid' : Vid → Option Rid) 
 
   -- it has ended
   abbrev pub Over : Flown → Type 0
-  Over z = (given : RoomState) → due_for plan names' z ≡ [] → GivesBack room w given → (t : Machine) × Answers t × StandsFor plan capacities (ended_names names' w z.operation.key (s.machine.board.applied z.operation.key) z.operation.new) given (put w None flown) rid' (with_answer s t (call_renamed (tie_by rid) c))
+  Over z = (given : RoomState) → MayEnd names' w z.operation.key z.operation.new → due_for plan names' z ≡ [] → GivesBack room w given → (t : Machine) × Answers t × StandsFor plan capacities (ended_names names' w z.operation.key (s.machine.board.applied z.operation.key) z.operation.new) given (put w None flown) rid' (with_answer s t (call_renamed (tie_by rid) c))
 
   abbrev pub Both : Flown → Type 0
   Both z = On z × Over z
 
-  module _ (is : IsPlan plan) (kept : IsSafe plan 4 capacities s) (t : Machine) (answers : Answers t) (whole : HasWholeGroups names') where
+  module _ (is : IsPlan plan) (kept : IsSafe plan 4 capacities s) (t : Machine) (answers : Answers t) (whole : HasWholeGroups names') (interfaces : HasWholeInterfaces names') where
     safe : IsSafe plan 4 capacities (with_answer s t (call_renamed (tie_by rid) c))
     safe = kept-answers plan is 4 capacities s (with_answer s t (call_renamed (tie_by rid) c)) kept (call_renamed (tie_by rid) c) answers.0
 
     pub stands_on : (z : Flown) → KnowsBoard plan capacities names' room (put w (Some z) flown) t → Identified plan names' rid' (put w (Some z) flown) t.stands → StandsFor plan capacities names' room (put w (Some z) flown) rid' (with_answer s t (call_renamed (tie_by rid) c))
-    stands_on z board known = record { safe = safe; board = board; identified = known; whole = whole }
+    stands_on z board known = record { safe = safe; board = board; identified = known; whole = whole; interfaces = interfaces }
 
-    pub stands_over : (k : Key) (new : Option Row) (given : RoomState) → KnowsBoard plan capacities (ended_names names' w k (s.machine.board.applied k) new) given (put w None flown) t → Identified plan names' rid' (put w None flown) t.stands → AreFine names' → StandsFor plan capacities (ended_names names' w k (s.machine.board.applied k) new) given (put w None flown) rid' (with_answer s t (call_renamed (tie_by rid) c))
-    stands_over k new given board known fine = record {
+    pub stands_over : (k : Key) (new : Option Row) (given : RoomState) → MayEnd names' w k new → KnowsBoard plan capacities (ended_names names' w k (s.machine.board.applied k) new) given (put w None flown) t → Identified plan names' rid' (put w None flown) t.stands → AreFine names' → StandsFor plan capacities (ended_names names' w k (s.machine.board.applied k) new) given (put w None flown) rid' (with_answer s t (call_renamed (tie_by rid) c))
+    stands_over k new given may_end board known fine = record {
       safe = safe;
       board = board;
-      identified = ended_identified plan t safe.sound names' fine w k (s.machine.board.applied k) rid' (put w None flown) known new board.registers.names_known;
+      identified = ended_identified plan t safe.sound names' fine w k (s.machine.board.applied k) rid' (put w None flown) known new may_end board.registers.names_known;
       whole = whole_ended names' w k (s.machine.board.applied k) new whole;
+      interfaces = interfaces_ended plan is t safe.sound board.busy names' w k (s.machine.board.applied k) new rid' (put w None flown) may_end interfaces known (passed_rising names' w k (s.machine.board.applied k) fine) board.registers.names_known;
     }

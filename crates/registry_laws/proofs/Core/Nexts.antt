@@ -62,7 +62,7 @@ module _ (plan : Ports) (is : IsPlan plan) (capacities : List ℕ) (names : Name
 
   -- the changes of the row are of no group
   pub not_grouped : (c : Change) → IsIn c f.due → IsOfGroup plan c → ⊥
-  not_grouped c i = none_of_group plan f.key (m.board.applied f.key) f.due c (rest_order plan is (m.board.applied f.key) f (λ r e. sound.board.fit f.key r (inl e)) its.over.new its.rest) i
+  not_grouped c i = none_of_group plan f.key (m.board.applied f.key) f.new f.due c (rest_order plan is (m.board.applied f.key) f (λ r e. sound.board.fit f.key r (inl e)) its.over.new its.rest) i
 
   -- ---- of a row
 

@@ -1,24 +1,24 @@
 -- all stands for the state when an operation has begun
-use Rattle.std.proofs.Common.{◌≡◌, ◌<◌, ◌∷◌, ◌∙◌, inr, ℕ, true, List, [], Option, None, Some, Ok, sym, subst}
-use Rattle.table_schema.specs.Names.{names_of}
+use Rattle.std.proofs.Common.{◌≡◌, ◌<◌, ◌∷◌, ◌∙◌, inr, ℕ, true, List, [], Option, None, Some, Ok, sym, subst, option_map}
 use Rattle.table_schema.specs.Plan.{IsPlan, Ports}
 use Rattle.table_schema.specs.declared.key.Key.{Key}
-use Rattle.table_schema.specs.declared.row.Row.{Row}
 use Rattle.sai_types.specs.declared.ids.Rid.{Rid}
 use Rattle.sai_types.specs.declared.ids.Vid.{Vid}
 use Rattle.switch_model.specs.Desired.{have_rows}
+use Rattle.switch_model.specs.Placed.{Placed as Row, bare, bare_rows}
 use Rattle.row_layout.specs.Operations.{Change}
 use Rattle.row_layout.specs.Rows.{Owner}
-use Rattle.switch_machine.specs.Events.{HasLeft, IsBegin, IsSafe, SwitchState}
+use Rattle.switch_machine.specs.Events.{HasLeft, IsBegin, IsSafe, SwitchState, placed_good}
 use Rattle.switch_machine.specs.Flights.{Fits, IsResting, Machine, put}
 use Rattle.switch_machine.specs.Written.{good_of}
 use Rattle.switch_machine.proofs.Kept.{kept-event}
 use Rattle.ref_counts.specs.Registry.{Names}
 use Rattle.ref_counts.specs.Room.{GivesBack, RoomState}
+use Rattle.orch_flight.specs.Needing.{row_names}
 use Rattle.orch_flight.specs.Operation.{Operation}
 use Rattle.orch_flight.specs.Sharing.{MayStart}
 use Rattle.orch_flight.specs.Starting.{IsStartedBy, begun_names, first_due, leaving, started_names, started_names_by}
-use Rattle.registry_laws.specs.Ending.{ended_names}
+use Rattle.registry_laws.specs.Ending.{ended_names, MayEnd}
 use Rattle.registry_laws.specs.Flown.{Flown, due_for}
 use Rattle.registry_laws.specs.Flying.{flown_as, with_machine}
 use Rattle.registry_laws.specs.Registers.{AreUsed}
@@ -26,13 +26,14 @@ use Rattle.registry_laws.proofs.Allowed.{may_start}
 use Rattle.registry_laws.proofs.Fine.{AreFine, begun_fine, fine_of, left_fine}
 use Rattle.registry_laws.proofs.Listing.{not_some}
 use Rattle.registry_laws.proofs.Opened as opened
-use Rattle.registry_laws.specs.Identified.{HasWholeGroups, HaveSameIds, Identified, KeepsBuilds}
+use Rattle.registry_laws.specs.Identified.{HasWholeGroups, HaveSameIds, Identified, KeepsBuilds, HasWholeInterfaces}
 use Rattle.registry_laws.proofs.Identifier.Starting.{ids_started}
 use Rattle.registry_laws.proofs.Identifier.Staying.{flown_identified, puts_kept, same_identified}
 use Rattle.registry_laws.proofs.Identifier.Whole.{whole_ended, whole_same}
 use Rattle.registry_laws.specs.Standing.{StandsFor}
-use Rattle.registry_laws.proofs.Core.Ended.{ended_identified}
+use Rattle.registry_laws.proofs.Core.Ended.{ended_identified, passed_rising}
 use Rattle.registry_laws.proofs.Core.Resting.{differing_reads}
+use Rattle.registry_laws.proofs.Identifier.Interfaces.{interfaces_ended, interfaces_started}
 
 started_fine : (plan : Ports) (names : Names) (w : ℕ) (k : Key) (old new : Option Row) → AreFine names → AreFine (started_names plan names w k old new)
 started_fine plan names w k old new fine = by (first_due plan names k old new) (leaving plan k old new)
@@ -45,12 +46,12 @@ started_fine plan names w k old new fine = by (first_due plan names k old new) (
     by [] None = begun
     by (c ∷ cs) leaves = begun
 
-module _ (plan : Ports) (is : IsPlan plan) (capacities : List ℕ) (names : Names) (room : RoomState) (flown : ℕ → Option Flown) (rid : Vid → Option Rid) (s : SwitchState) (stands : StandsFor plan capacities names room flown rid s) (room' : RoomState) (numbers : List ℕ) (are : AreUsed s.objects numbers) (w : ℕ) (less : w < 4) (free : flown w ≡ None) (k : Key) (rests : IsResting s.machine.board k) (differs : s.machine.board.applied k ≡ good_of plan s.written k → ⊥) (fits : (r : Row) → good_of plan s.written k ≡ Some r → have_rows s.machine.board.applied (names_of k r) ≡ true → Fits plan k r) (later : List Key) (left : HasLeft k s.to_sync later) (f : Operation) (names' : Names) (starts : IsStartedBy plan names room numbers w k (s.machine.board.applied k) (good_of plan s.written k) (Ok f) names' room') where
+module _ (plan : Ports) (is : IsPlan plan) (capacities : List ℕ) (names : Names) (room : RoomState) (flown : ℕ → Option Flown) (rid : Vid → Option Rid) (s : SwitchState) (stands : StandsFor plan capacities names room flown rid s) (room' : RoomState) (numbers : List ℕ) (are : AreUsed s.machine s.objects numbers) (w : ℕ) (less : w < 4) (free : flown w ≡ None) (k : Key) (rests : IsResting s.machine.board k) (differs : option_map bare (s.machine.board.applied k) ≡ good_of plan s.written k → ⊥) (fits : (r : Row) → placed_good plan s.machine.board s.written k ≡ Some r → have_rows (bare_rows s.machine.board.applied) (row_names k r) ≡ true → Fits plan k r) (later : List Key) (left : HasLeft k s.to_sync later) (f : Operation) (names' : Names) (starts : IsStartedBy plan names room numbers w k (s.machine.board.applied k) (placed_good plan s.machine.board s.written k) (Ok f) names' room') where
   abbrev old : Option Row
   old = s.machine.board.applied k
 
   abbrev new : Option Row
-  new = good_of plan s.written k
+  new = placed_good plan s.machine.board s.written k
 
   may : MayStart plan names w k old new
   may = may_start plan is capacities s stands.safe names room flown stands.board w free k rests less (differing_reads plan s stands.safe.sound k differs) differs fits
@@ -63,6 +64,9 @@ module _ (plan : Ports) (is : IsPlan plan) (capacities : List ℕ) (names : Name
 
   whole : HasWholeGroups names'
   whole = whole_same names names' same stands.whole
+
+  interfaces : HasWholeInterfaces names'
+  interfaces = subst HasWholeInterfaces (sym starts.2) (interfaces_started plan is names w k old new may stands.interfaces)
 
   -- the worker had nothing under way
   nothing : (y : Option Flown) → KeepsBuilds flown (put w y flown)
@@ -80,17 +84,18 @@ module _ (plan : Ports) (is : IsPlan plan) (capacities : List ℕ) (names : Name
   pub goes_on : (due_for plan names' (flown_as f None) ≡ [] → ⊥) → (t : Machine) × Begins t × StandsFor plan capacities names' room' (put w (Some (flown_as f None)) flown) rid (with_machine s t later)
   goes_on some =
       let x = opened.goes_on plan is capacities s stands.safe names room room' numbers flown stands.board are w less free k rests differs fits later left f names' starts some in
-      (x.0, x.1, record { safe = safe x.0 x.1; board = x.2; identified = identified (Some (flown_as f None)) x.0 x.3; whole = whole })
+      (x.0, x.1, record { safe = safe x.0 x.1; board = x.2; identified = identified (Some (flown_as f None)) x.0 x.3; whole = whole; interfaces = interfaces })
 
-  pub ends : (given : RoomState) → due_for plan names' (flown_as f None) ≡ [] → GivesBack room' w given → (t : Machine) × Begins t × StandsFor plan capacities (ended_names names' w k old new) given (put w None flown) rid (with_machine s t later)
-  ends given empty gives =
+  pub ends : (given : RoomState) → MayEnd names' w k new → due_for plan names' (flown_as f None) ≡ [] → GivesBack room' w given → (t : Machine) × Begins t × StandsFor plan capacities (ended_names names' w k old new) given (put w None flown) rid (with_machine s t later)
+  ends given may_end empty gives =
       let x = opened.ends plan is capacities s stands.safe names room room' numbers flown stands.board are w less free k rests differs fits later left f names' starts given empty gives in (
         x.0,
         x.1,
         record {
           safe = safe x.0 x.1;
           board = x.2;
-          identified = ended_identified plan x.0 (safe x.0 x.1).sound names' fine w k old rid (put w None flown) (identified None x.0 x.3) new x.2.registers.names_known;
+          identified = ended_identified plan x.0 (safe x.0 x.1).sound names' fine w k old rid (put w None flown) (identified None x.0 x.3) new may_end x.2.registers.names_known;
           whole = whole_ended names' w k old new whole;
+          interfaces = interfaces_ended plan is x.0 (safe x.0 x.1).sound x.2.busy names' w k old new rid (put w None flown) may_end interfaces (identified None x.0 x.3) (passed_rising names' w k old fine) x.2.registers.names_known;
         },
       )

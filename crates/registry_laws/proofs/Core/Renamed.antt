@@ -70,6 +70,8 @@ module _ (m : Machine) (later : List (Rid × Thing)) (into : (u : Thing) → Sta
       standing = λ u c i j e. into u (y.standing u c i j e);
       later = y.later;
       group = y.group;
+      beyond = y.beyond;
+      reserves = y.reserves;
     }
 
     board_retied : (flown : ℕ → Option Flown) → KnowsBoard plan capacities names room flown m → KnowsBoard plan capacities names room flown t
@@ -93,4 +95,5 @@ module _ (plan : Ports) (is : IsPlan plan) (capacities : List ℕ) (names : Name
     board = board_retied s.machine later into plan capacities names room flown stands.board;
     identified = record { each = λ j u h numbered. let x = ties.back j u h in let y = stands.identified.each x.0 u x.1 numbered in (y.0, y.1, x.2 numbered y.0 y.2) };
     whole = stands.whole;
+    interfaces = stands.interfaces;
   }

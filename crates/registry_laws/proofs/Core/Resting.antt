@@ -1,5 +1,5 @@
 -- the keys of what workers have under way are those of the machine's operations
-use Rattle.std.proofs.Common.{◌≡◌, ◌<◌, ◌∙◌, inl, ℕ, Bool, true, false, List, Option, None, Some, refl, sym, ap}
+use Rattle.std.proofs.Common.{◌≡◌, ◌<◌, ◌∙◌, inl, ℕ, Bool, true, false, List, Option, None, Some, refl, sym, ap, option_map}
 use Rattle.std.specs.Prelude.{◌&&◌, bytes_eq, codes, if◌then◌else◌}
 use Rattle.std.proofs.lemmas.Option.{same_Some}
 use Rattle.swss_types.specs.Prefix.{has_host_bits}
@@ -11,8 +11,8 @@ use Rattle.table_schema.specs.Split.{split_once}
 use Rattle.table_schema.specs.declared.key.Key.{Key}
 use Rattle.table_schema.specs.declared.key.Key.TheVariants as key
 use Rattle.table_schema.specs.declared.row.BadWhy.TheVariants.{HostBits, Unsupported}
-use Rattle.table_schema.specs.declared.row.Row.{Row}
 use Rattle.switch_model.specs.Good.{good_row, row_read}
+use Rattle.switch_model.specs.Placed.{Placed as Row, bare}
 use Rattle.switch_machine.specs.Consistent.{IsConsistent}
 use Rattle.switch_machine.specs.Events.{IsQuiet, SwitchState}
 use Rattle.switch_machine.specs.Flights.{MachineFlight, IsResting}
@@ -58,8 +58,8 @@ none_good plan text (Some fields) = by (split_once 58 text)
     by (Some parts) = either (bytes_eq parts.0 (codes "ROUTE_TABLE") && has_host_bits parts.1)
 
 -- so a key whose good row is another than its applied one reads
-pub differing_reads : (plan : Ports) (s : SwitchState) → IsConsistent plan s.machine → (k : Key) → (s.machine.board.applied k ≡ good_of plan s.written k → ⊥) → IsReadable k
-differing_reads plan s sound (key.Other text) differs = differs (none (s.machine.board.applied (key.Other text)) refl ∙ sym (none_good plan text (s.written.rows (key.Other text))))
+pub differing_reads : (plan : Ports) (s : SwitchState) → IsConsistent plan s.machine → (k : Key) → (option_map bare (s.machine.board.applied k) ≡ good_of plan s.written k → ⊥) → IsReadable k
+differing_reads plan s sound (key.Other text) differs = differs (ap (option_map bare) (none (s.machine.board.applied (key.Other text)) refl) ∙ sym (none_good plan text (s.written.rows (key.Other text))))
   where
     none : (r : Option Row) → s.machine.board.applied (key.Other text) ≡ r → s.machine.board.applied (key.Other text) ≡ None
     none None e = e

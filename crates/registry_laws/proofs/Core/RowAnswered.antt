@@ -15,19 +15,20 @@ use Rattle.row_layout.specs.Rows.{Owner}
 use Rattle.switch_machine.specs.Events.{Follows, SwitchState}
 use Rattle.switch_machine.specs.Flights.{Machine, put}
 use Rattle.switch_machine.specs.Steps.{moved}
+use Rattle.switch_machine.proofs.Tabled.{are_shared_by}
 use Rattle.ref_counts.specs.Registry.{Names}
 use Rattle.ref_counts.specs.Room.{RoomState}
 use Rattle.orch_flight.specs.Calling.{HasVid, things_held}
 use Rattle.orch_flight.specs.Operation.{Operation}
 use Rattle.orch_flight.specs.Taking.{IsTook, MayTake, names_after, names_by}
 use Rattle.registry_laws.specs.Answering.{IsOfGroup}
-use Rattle.registry_laws.specs.Flown.{Flown, group_to_build, group_to_take}
+use Rattle.registry_laws.specs.Flown.{Flown, group_to_build, group_to_take, flight_of}
 use Rattle.registry_laws.specs.Flying.{flown_as}
 use Rattle.registry_laws.specs.Making.{IsNextCall}
 use Rattle.registry_laws.proofs.Fine.{AreFine, after_fine, fine_of, left_fine}
 use Rattle.registry_laws.proofs.Listing.{not_some}
 use Rattle.registry_laws.proofs.Replies.{row_ends, row_goes_on}
-use Rattle.registry_laws.specs.Identified.{HasWholeGroups, Identified, KeepsBuilds, TiesAfter, tie_by}
+use Rattle.registry_laws.specs.Identified.{HasWholeGroups, Identified, KeepsBuilds, TiesAfter, tie_by, HasWholeInterfaces}
 use Rattle.registry_laws.proofs.Identifier.Staying.{flown_identified, puts_kept}
 use Rattle.registry_laws.proofs.Identifier.Took.{took_identified}
 use Rattle.registry_laws.proofs.Identifier.Whole.{whole_took}
@@ -37,6 +38,7 @@ use Rattle.registry_laws.proofs.Core.Due.{IsNext, row_next}
 use Rattle.registry_laws.proofs.Core.Making.{Answers, Both, On, Over, answer, later, moves, stands_on, stands_over, then, tied}
 use Rattle.registry_laws.proofs.Core.Nexts.{builds, its, no_group, not_grouped, row_due_is}
 use Rattle.registry_laws.proofs.Core.Taken.{may_take_row}
+use Rattle.registry_laws.proofs.Identifier.Interfaces.{interfaces_took}
 
 took_fine : (names names' : Names) (f f' : Operation) (made : Option Vid) → AreFine names → IsTook f made names f' names' → AreFine names'
 took_fine names names' f f' made fine took = subst AreFine (sym took.names_are) (by took.rest f.leaves)
@@ -77,6 +79,9 @@ module _ (plan : Ports) (is : IsPlan plan) (capacities : List ℕ) (names : Name
   whole : HasWholeGroups names'
   whole = whole_took names names' f f' made may took stands.whole
 
+  interfaces : HasWholeInterfaces names'
+  interfaces = interfaces_took names f made stands.board.placed stands.interfaces f' names' may took (λ o e. let was = (stands.safe.sound.board.leaves w (flight_of f) o (its plan is capacities names room flown rid s stands w x at).flying e).0 in are_shared_by plan is f.key was.row o was.used)
+
   fine : AreFine names'
   fine = took_fine names names' f f' made (fine_of names stands.board.rising stands.board.placed stands.board.there) took
 
@@ -112,9 +117,9 @@ module _ (plan : Ports) (is : IsPlan plan) (capacities : List ℕ) (names : Name
       on : On plan capacities rid rid' flown room s w c names' (flown_as f' None)
       on some =
           let z = row_goes_on plan is capacities m stands.safe.sound names room flown stands.board w x at y.change y.rest stands' (moves plan is capacities names room flown rid s stands w x at c (HasVid plan names) (things_held plan f) y) made none no.0 no.1 f' names' took some in
-          (z.0, answers z.0 z.1, stands_on plan capacities rid rid' flown room s w c names' is stands.safe z.0 (answers z.0 z.1) whole (flown_as f' None) z.3 (known (Some (flown_as f' None)) z.0 z.1))
+          (z.0, answers z.0 z.1, stands_on plan capacities rid rid' flown room s w c names' is stands.safe z.0 (answers z.0 z.1) whole interfaces (flown_as f' None) z.3 (known (Some (flown_as f' None)) z.0 z.1))
 
       over : Over plan capacities rid rid' flown room s w c names' (flown_as f' None)
-      over given empty gives =
+      over given may_end empty gives =
           let z = row_ends plan is capacities m stands.safe.sound names room flown stands.board w x at y.change y.rest stands' (moves plan is capacities names room flown rid s stands w x at c (HasVid plan names) (things_held plan f) y) made none no.0 no.1 f' names' took given empty gives in
-          (z.0, answers z.0 z.1, stands_over plan capacities rid rid' flown room s w c names' is stands.safe z.0 (answers z.0 z.1) whole f'.key f'.new given z.3 (known None z.0 z.1) fine)
+          (z.0, answers z.0 z.1, stands_over plan capacities rid rid' flown room s w c names' is stands.safe z.0 (answers z.0 z.1) whole interfaces f'.key f'.new given may_end z.3 (known None z.0 z.1) fine)

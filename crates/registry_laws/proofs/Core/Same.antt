@@ -21,4 +21,5 @@ module _ (plan : Ports) (capacities : List ℕ) (names : Names) (room : RoomStat
     board = stands.board;
     identified = record { each = λ i t h numbered. let x = stands.identified.each i t h numbered in (x.0, x.1, keeps x.0 i x.2) };
     whole = stands.whole;
+    interfaces = stands.interfaces;
   }

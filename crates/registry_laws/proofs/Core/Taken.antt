@@ -43,7 +43,7 @@ module _ (plan : Ports) (is : IsPlan plan) (capacities : List ℕ) (names : Name
   pub may_take_row : HasBegun plan names x → x.group ≡ None → IsNextCall plan names f None c → MayTake f made names
   may_take_row begun none told =
       let no = no_group plan is capacities names room flown rid s stands w x at begun none in
-      may_take plan is capacities names room flown s.machine stands.safe.sound stands.board w x at none no.0 no.1 made
+      may_take plan is capacities names room flown s.machine stands.safe.sound stands.board w x at stands.interfaces none no.0 no.1 made
       (λ t rest due. number ∙ making_number _ t c (subst (λ d. IsCallFor _ _ d c) (same_first told.0 (Make t) told.1 rest (sym told.2 ∙ due)) told.3))
 
   module _ (g : GroupOperation) (has : x.group ≡ Some g) (told : IsNextCall plan names f (Some g) c) where

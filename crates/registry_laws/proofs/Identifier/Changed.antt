@@ -40,7 +40,7 @@ use Rattle.registry_laws.specs.Flown.{Flown}
 use Rattle.registry_laws.proofs.Finding.{gone_off}
 use Rattle.registry_laws.proofs.Listing.{not_some}
 use Rattle.registry_laws.specs.Identified.{BuildsGroups, Identified, IsVidOf, KeepsTies, TiesAfter}
-use Rattle.registry_laws.proofs.Identifier.Ids.{ids_live, ids_off}
+use Rattle.registry_laws.proofs.Identifier.Ids.{ids_off, ids_made}
 use Rattle.registry_laws.proofs.Identifier.Known.{vid_one}
 use Rattle.registry_laws.proofs.Identifier.Owning.{IsFirst, vid_by}
 use Rattle.registry_laws.proofs.Identifier.Single.{no_own, one_name}
@@ -72,17 +72,17 @@ made_off names k (thing.GroupMember hops hop) made o other = refl
 made_off names k _ made o other = ids_off names (owner.OfRow k) (made_live (to_list made)) o (λ e. other (ap Some e))
 
 -- and its own has the one that was made
-live_at : (names : Names) (p o : Owner) (w : ℕ) (ids : List Vid) → Some p ≡ Some o → state_of names (name_for o) ≡ state.Building w → ids_of (changed names (name_for p) (made_live ids)) (name_for o) ≡ ids
-live_at names p o w ids e h = subst (λ z. ids_of (changed names (name_for z) (made_live ids)) (name_for o) ≡ ids) (sym (same_Some p o e)) (ids_live names o w ids h)
+live_at : (names : Names) (p o : Owner) (ids : List Vid) → Some p ≡ Some o → (state_of names (name_for o) ≡ state.Absent → ⊥) → ids_of (changed names (name_for p) (made_live ids)) (name_for o) ≡ ids
+live_at names p o ids e h = subst (λ z. ids_of (changed names (name_for z) (made_live ids)) (name_for o) ≡ ids) (sym (same_Some p o e)) (ids_made names o ids h)
 
-made_at : (names : Names) (k : Key) (t : Thing) (made : Option Vid) (o : Owner) (w : ℕ) → made_owner k t ≡ Some o → state_of names (name_for o) ≡ state.Building w → has_number t ≡ true → ids_of (names_after_made names k t made) (name_for o) ≡ to_list made
-made_at names k (thing.BridgePort lane) made o w e h numbered = live_at names (owner.Bridge lane) o w (to_list made) e h
-made_at names k (thing.Own v ip) made o w e h numbered = absurd (false≢true numbered)
-made_at names k (thing.Neighbor hop mac) made o w e h numbered = not_some o e
-made_at names k (thing.Route v prefix goal) made o w e h numbered = not_some o e
-made_at names k (thing.Group hops) made o w e h numbered = not_some o e
-made_at names k (thing.GroupMember hops hop) made o w e h numbered = not_some o e
-made_at names k _ made o w e h numbered = live_at names (owner.OfRow k) o w (to_list made) e h
+made_at : (names : Names) (k : Key) (t : Thing) (made : Option Vid) (o : Owner) → made_owner k t ≡ Some o → (state_of names (name_for o) ≡ state.Absent → ⊥) → has_number t ≡ true → ids_of (names_after_made names k t made) (name_for o) ≡ to_list made
+made_at names k (thing.BridgePort lane) made o e h numbered = live_at names (owner.Bridge lane) o (to_list made) e h
+made_at names k (thing.Own v ip) made o e h numbered = absurd (false≢true numbered)
+made_at names k (thing.Neighbor hop mac) made o e h numbered = not_some o e
+made_at names k (thing.Route v prefix goal) made o e h numbered = not_some o e
+made_at names k (thing.Group hops) made o e h numbered = not_some o e
+made_at names k (thing.GroupMember hops hop) made o e h numbered = not_some o e
+made_at names k _ made o e h numbered = live_at names (owner.OfRow k) o (to_list made) e h
 
 made_numbered : (k : Key) (t : Thing) (o : Owner) → made_owner k t ≡ Some o → (has_number t ≡ true) ⊎ ((v : Vrf) × (ip : Ip) × (o ≡ owner.Own v ip))
 made_numbered k (thing.Own v ip) o e = inr (v, ip, sym (same_Some (owner.Own v ip) o e))
@@ -139,7 +139,7 @@ module _ (plan : Ports) (is : IsPlan plan) (m : Machine) (sound : IsConsistent p
 
   -- ---- a thing is made
 
-  module _ (w : ℕ) (f : MachineFlight) (flying : m.board.flights w ≡ Some f) (t : Thing) (can : CanMake plan f (StandsIn m) t) (made : Option Vid) (i : Rid) (alone : IsAlone plan (name_of t)) (builds : (n : registry_name.Name) → built_name f.key t ≡ Some n → (v : ℕ) × (state_of names n ≡ state.Building v)) (ties : TiesAfter plan names rid rid' (Make t) made i) where
+  module _ (w : ℕ) (f : MachineFlight) (flying : m.board.flights w ≡ Some f) (t : Thing) (can : CanMake plan f (StandsIn m) t) (made : Option Vid) (i : Rid) (alone : IsAlone plan (name_of t)) (builds : (n : registry_name.Name) → built_name f.key t ≡ Some n → state_of names n ≡ state.Absent → ⊥) (ties : TiesAfter plan names rid rid' (Make t) made i) where
     abbrev later : Names
     later = names_after_made names f.key t made
 
@@ -166,7 +166,7 @@ module _ (plan : Ports) (is : IsPlan plan) (m : Machine) (sound : IsConsistent p
         let x = ties.1 numbered in
         let e = made_some plan f.key t its_owner.0 its_owner.1 its_owner.2 numbered alone in
         let b = builds (name_for its_owner.0) (built_is f.key t ∙ ap (option_map name_for) e) in
-        let ids = made_at names f.key t made its_owner.0 b.0 e b.1 numbered in
+        let ids = made_at names f.key t made its_owner.0 e b numbered in
         (x.0, inl (vid_by plan later (name_of t) its_owner.0 numbered (first_alone plan (name_of t) alone) its_owner.1 ∙ ap first_of (ids ∙ ap to_list x.1)), x.2)
 
     pub make_tied : (j : Rid) (u : Thing) → with_thing L i t j u → has_number u ≡ true → HasTied later (name_of u) j

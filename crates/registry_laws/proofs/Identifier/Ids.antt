@@ -83,12 +83,15 @@ pub ids_building : (names : Names) (o : Owner) (w : ℕ) → state_of names (nam
 ids_building names o w h = building_in (registered_at names (name_for o)) w h
 
 -- a name that becomes live has the identifiers that it is given
-live_in : (x : Option Registered) (w : ℕ) (ids : List Vid) → state_in x ≡ state.Building w → ids_in (option_map (made_live ids) x) ≡ ids
-live_in None w ids h = absurd (no_state w h)
+live_in : (x : Option Registered) (ids : List Vid) → (state_in x ≡ state.Absent → ⊥) → ids_in (option_map (made_live ids) x) ≡ ids
+live_in None ids h = absurd (h refl)
+live_in (Some r) ids h = refl
+
+pub ids_made : (names : Names) (o : Owner) (ids : List Vid) → (state_of names (name_for o) ≡ state.Absent → ⊥) → ids_of (changed names (name_for o) (made_live ids)) (name_for o) ≡ ids
+ids_made names o ids h = ap ids_in (found_at names o (made_live ids)) ∙ live_in (registered_at names (name_for o)) ids h
+
+pub ids_live : (names : Names) (o : Owner) (w : ℕ) (ids : List Vid) → state_of names (name_for o) ≡ state.Building w → ids_of (changed names (name_for o) (made_live ids)) (name_for o) ≡ ids
+ids_live names o w ids h = ids_made names o ids (λ e. no_state w (sym e ∙ h))
   where
     no_state : (w : ℕ) → state.Absent ≡ state.Building w → ⊥
     no_state w h = cc
-live_in (Some r) w ids h = refl
-
-pub ids_live : (names : Names) (o : Owner) (w : ℕ) (ids : List Vid) → state_of names (name_for o) ≡ state.Building w → ids_of (changed names (name_for o) (made_live ids)) (name_for o) ≡ ids
-ids_live names o w ids h = ap ids_in (found_at names o (made_live ids)) ∙ live_in (registered_at names (name_for o)) w ids h

@@ -5,8 +5,6 @@ use Rattle.table_schema.specs.Names.{router_names}
 use Rattle.table_schema.specs.Plan.{IsPlan, Ports, port_named}
 use Rattle.table_schema.specs.declared.key.Key.{Key}
 use Rattle.table_schema.specs.declared.key.Key.TheVariants as key
-use Rattle.table_schema.specs.declared.row.Row.{Row}
-use Rattle.table_schema.specs.declared.row.Row.TheVariants as row
 use Rattle.swss_types.specs.declared.interface.IfName.{IfName}
 use Rattle.swss_types.specs.declared.vrf.Vrf.{Vrf}
 use Rattle.swss_types.specs.declared.vrf.Vrf.TheVariants as vrf
@@ -25,6 +23,8 @@ use Rattle.sai_types.specs.Names.{ThingName, name_kind, name_of}
 use Rattle.chip_layout.specs.Bodies.{IsAt, is_numbered}
 use Rattle.sai_types.specs.Objects.{Objects}
 use Rattle.chip_layout.specs.Layout.{Has, IsLaidOut, listed}
+use Rattle.switch_model.specs.Placed as row
+use Rattle.switch_model.specs.Placed.{Placed as Row}
 use Rattle.row_layout.specs.Operations.{Change, Make, Set, Take, uses_of}
 use Rattle.row_layout.specs.Rows as owner
 use Rattle.row_layout.specs.Rows.{Owner, goal_of, interface_on, own_things}
@@ -145,7 +145,7 @@ module _ (plan : Ports) (is : IsPlan plan) (m : Machine) (sound : IsConsistent p
       entered_known k (thing_name.NextHop hop) o of whose alone there near = as_is k (thing_name.NextHop hop) (λ hop e. cc) (row_entered k (thing_name.NextHop hop) o refl tt of (of_row o (interface_on plan hop.on) (λ i. key.Neigh i hop.ip) of) whose there)
       entered_known k (thing_name.Group hops) o of whose alone there near = absurd (alone hops (sym (same_Some (owner.Group hops) o of)))
       entered_known k (thing_name.GroupMember hops hop) o of whose alone there near = absurd (alone hops (sym (same_Some (owner.Group hops) o of)))
-      entered_known k (thing_name.Own v ip) o of whose alone there near = as_is k (thing_name.Own v ip) (λ hop e. cc) tt
+      entered_known k (thing_name.Own v ip) o of whose alone there near = as_is k (thing_name.Own v ip) (λ hop e. cc) (router_known v near.router)
       entered_known k (thing_name.Route v prefix) o of whose alone there near = as_is k (thing_name.Route v prefix) (λ hop e. cc) (router_known v near.router)
 
       -- what points at something else points at what the new row names or shares

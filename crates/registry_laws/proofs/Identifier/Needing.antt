@@ -7,12 +7,10 @@ use Rattle.swss_types.specs.declared.interface.IfName.TheVariants as on
 use Rattle.swss_types.specs.declared.vrf.Vrf.{Vrf}
 use Rattle.swss_types.specs.declared.vrf.Vrf.TheVariants as vrf
 use Rattle.swss_types.proofs.Proper.{mapped}
-use Rattle.table_schema.specs.Names.{base_names, names_of, route_names, router_names}
+use Rattle.table_schema.specs.Names.{intf_names, route_names, router_names}
 use Rattle.table_schema.specs.Plan.{Ports}
 use Rattle.table_schema.specs.declared.key.Key.{Key}
 use Rattle.table_schema.specs.declared.key.Key.TheVariants as key
-use Rattle.table_schema.specs.declared.row.Row.{Row}
-use Rattle.table_schema.specs.declared.row.Row.TheVariants as row
 use Rattle.table_schema.specs.declared.row.RouteRow.{RouteRow}
 use Rattle.table_schema.specs.declared.row.RouteRow.TheVariants as route
 use Rattle.table_schema.specs.declared.row_hop.RowHop.{RowHop}
@@ -29,15 +27,17 @@ use Rattle.sai_types.specs.Hop.{put_hop}
 use Rattle.sai_types.specs.Names as thing_name
 use Rattle.sai_types.specs.Names.{ThingName, name_kind, name_of}
 use Rattle.sai_types.proofs.Things.{both_mapped}
-use Rattle.sai_types.proofs.Membership.{all-in, in-right}
+use Rattle.sai_types.proofs.Membership.{all-in, in-right, in-left}
 use Rattle.switch_model.specs.Things.{base_of, hop_of, hops_of, lane_of, whop_of}
 use Rattle.chip_layout.specs.Bodies.{is_numbered}
+use Rattle.switch_model.specs.Placed as row
+use Rattle.switch_model.specs.Placed.{Placed as Row, placed_names as names_of}
 use Rattle.row_layout.specs.Rows as owner
 use Rattle.row_layout.specs.Rows.{Owner, goal_to, goal_of, own_things}
 use Rattle.row_layout.specs.Shared.{shared_things, uses}
 use Rattle.row_layout.proofs.Members.{from_in, in_map, only, two}
 use Rattle.switch_machine.specs.Flights.{Fits, own_names}
-use Rattle.switch_machine.proofs.Tabled.{group_use, member_of, in_from}
+use Rattle.switch_machine.proofs.Tabled.{group_use, member_of, in_from, address_use}
 use Rattle.ref_counts.specs.declared.name.Name as registry_name
 use Rattle.ref_counts.specs.declared.name.Name.TheVariants as name
 use Rattle.ref_counts.specs.Registered.{first_of}
@@ -85,12 +85,17 @@ module _ (plan : Ports) (names : Names) (k : Key) (r : Row) where
   SharedKnown = (o : Owner) (x : Thing) → IsIn o (uses plan k r) → IsIn x (shared_things o) → is_numbered (name_kind (name_of x)) ≡ true → IsFirst (name_of x) → IsKnown names (name_for o)
 
 module _ (plan : Ports) (names : Names) where
-  interface_known : (i : IfName) (r : Row) (b : Base) → base_of plan i ≡ Some b → RowsKnown plan names (key.Intf i) r → HaveIds names (map name.Row (base_names i))
-  interface_known (on.Ethernet p) r b at rows =
+  -- the router that a row is in
+  router_known : (k : Key) (r : Row) (v : Vrf) → ((p : Key) → IsIn p (router_names v) → IsIn p (names_of k r)) → RowsKnown plan names k r → HaveIds names (map name.Row (router_names v))
+  router_known k r vrf.Default into rows = tt
+  router_known k r (vrf.Named label) into rows = (rows (key.Vrf label) (thing_name.VirtualRouter label) (into (key.Vrf label) (inl refl)) (inl refl) refl tt, tt)
+
+  interface_known : (i : IfName) (v : Vrf) (b : Base) → base_of plan i ≡ Some b → RowsKnown plan names (key.Intf i) (row.Intf v) → HaveIds names (map name.Row (intf_names i v))
+  interface_known (on.Ethernet p) v b at rows =
       let m = mapped base.Port (lane_of plan p) b at in
-      (rows (key.Port p) (thing_name.Port m.0) (inl refl) (in_from (lane_of plan p) (λ l. thing_name.Port l ∷ []) m.0 (thing_name.Port m.0) m.1 (inl refl)) refl tt, tt)
-  interface_known (on.Vlan v) r b at rows = (rows (key.Vlan v) (thing_name.Vlan v) (inl refl) (inl refl) refl tt, tt)
-  interface_known (on.Loopback l) r b at rows = tt
+      (rows (key.Port p) (thing_name.Port m.0) (inl refl) (in_from (lane_of plan p) (λ l. thing_name.Port l ∷ []) m.0 (thing_name.Port m.0) m.1 (inl refl)) refl tt, router_known (key.Intf (on.Ethernet p)) (row.Intf v) v (λ q h. inr h) rows)
+  interface_known (on.Vlan n) v b at rows = (rows (key.Vlan n) (thing_name.Vlan n) (inl refl) (inl refl) refl tt, router_known (key.Intf (on.Vlan n)) (row.Intf v) v (λ q h. inr h) rows)
+  interface_known (on.Loopback l) v b at rows = router_known (key.Intf (on.Loopback l)) (row.Intf v) v (λ q h. h) rows
 
   rif_known : (k : Key) (r : Row) (i : IfName) (b : Base) → base_of plan i ≡ Some b → IsIn (key.Intf i) (names_of k r) → RowsKnown plan names k r → HaveIds names (name.Row (key.Intf i) ∷ [])
   rif_known k r i b at h rows = (rows (key.Intf i) (thing_name.Rif b) h (in_from (base_of plan i) (λ c. thing_name.Rif c ∷ []) b (thing_name.Rif b) at (inl refl)) refl tt, tt)
@@ -112,11 +117,6 @@ module _ (plan : Ports) (names : Names) where
           let hop : Hop = record { on = b.0; ip = ip } in
           subst (IsKnown names) (sym same) (rows (key.Neigh h.0.on ip) (thing_name.NextHop hop) (named_by v prefix (route.Hops hops) (key.Neigh h.0.on ip) (in_map (λ (z : RowHop × ℕ). key.Neigh z.0.on z.0.ip) h hops i)) (in_from (base_of plan h.0.on) (λ c. thing_name.Neighbor (record { on = c; ip = ip }) ∷ thing_name.NextHop (record { on = c; ip = ip }) ∷ []) b.0 (thing_name.NextHop hop) b.1 (inr (inl refl))) refl tt)
 
-  -- the router that a route is in
-  router_known : (v : Vrf) (prefix : key_prefix.Prefix) (r : RouteRow) → RowsKnown plan names (key.Route v prefix) (row.Route r) → HaveIds names (map name.Row (router_names v))
-  router_known vrf.Default prefix r rows = tt
-  router_known (vrf.Named label) prefix r rows = (rows (key.Vrf label) (thing_name.VirtualRouter label) (inl refl) (inl refl) refl tt, tt)
-
   -- what a route's row points at
   pub pointed_known : (v : Vrf) (prefix : key_prefix.Prefix) (r : RouteRow) (g : Goal) → goal_of plan r ≡ Some g → RowsKnown plan names (key.Route v prefix) (row.Route r) → SharedKnown plan names (key.Route v prefix) (row.Route r) → HaveIds names (pointed (Some (row.Route r)) g)
   pointed_known v prefix route.Drop g at rows shared = tt
@@ -137,9 +137,9 @@ module _ (plan : Ports) (names : Names) where
         rows (key.Vlan v) (thing_name.Vlan v) (inl refl) (inl refl) refl tt,
         (shared (owner.Bridge m.0) (thing.BridgePort m.0) (in_from (lane_of plan p) (λ l. owner.Bridge l ∷ []) m.0 (owner.Bridge m.0) m.1 (inl refl)) (inl refl) refl tt, tt),
       ) m.2
-  referred_known (key.Intf i) row.Intf t fit h rows shared =
+  referred_known (key.Intf i) (row.Intf v) t fit h rows shared =
       let m = from_in (base_of plan i) _ t h in
-      only (λ z. HaveIds names (referred (key.Intf i) (Some row.Intf) z)) t (thing.Rif m.0 vrf.Default) (interface_known i row.Intf m.0 m.1 rows) m.2
+      only (λ z. HaveIds names (referred (key.Intf i) (Some (row.Intf v)) z)) t (thing.Rif m.0 v) (interface_known i v m.0 m.1 rows) m.2
   referred_known (key.Neigh i ip) (row.Neigh mac) t fit h rows shared =
       let m = from_in (base_of plan i) _ t h in
       let on = rif_known (key.Neigh i ip) (row.Neigh mac) i m.0 m.1 (inl refl) rows in
@@ -147,7 +147,7 @@ module _ (plan : Ports) (names : Names) where
   referred_known (key.Route v prefix) (row.Route r) t fit h rows shared =
       let m = from_in (goal_of plan r) _ t h in
       let pointed_at = pointed_known v prefix r m.0 m.1 rows shared in
-      only (λ z. HaveIds names (referred (key.Route v prefix) (Some (row.Route r)) z)) t (thing.Route v prefix m.0) (both_known names (map name.Row (router_names v)) (pointed (Some (row.Route r)) m.0) (router_known v prefix r rows) pointed_at) m.2
+      only (λ z. HaveIds names (referred (key.Route v prefix) (Some (row.Route r)) z)) t (thing.Route v prefix m.0) (both_known names (map name.Row (router_names v)) (pointed (Some (row.Route r)) m.0) (router_known (key.Route v prefix) (row.Route r) v (λ q h. in-left q (router_names v) (route_names r) h) rows) pointed_at) m.2
   referred_known k r t fit h rows shared = elim h [ ]
 
   -- and a thing that it shares
@@ -158,7 +158,8 @@ module _ (plan : Ports) (names : Names) where
         rows (key.Port p) (thing_name.Port m.0) (inr (inl refl)) (in_from (lane_of plan p) (λ l. thing_name.Port l ∷ []) m.0 (thing_name.Port m.0) m.1 (inl refl)) refl tt,
         tt,
       ) y) m.2 in_it
-  shared_referred (key.Addr i ip len) row.Addr o t h in_it fit rows = tt
+  shared_referred (key.Addr i ip len) (row.Addr v) o t h in_it fit rows =
+      only (λ z. HaveIds names (referred (key.Addr i ip len) (Some (row.Addr v)) z)) t (thing.Own v ip) (router_known (key.Addr i ip len) (row.Addr v) v (λ q h. inr h) rows) (subst (λ z. IsIn t (shared_things z)) (address_use plan i v ip o h) in_it)
   shared_referred (key.Route v prefix) (row.Route (route.Hops hops)) o t h in_it fit rows =
       let x = group_use o (hops_of plan hops) h in
       of_group x.0 (subst (λ o. IsIn t (shared_things o)) x.2 in_it)
@@ -175,7 +176,7 @@ module _ (plan : Ports) (names : Names) where
 -- but for a neighbour, which is named by its interface
 abbrev pub entered_by : Key → ThingName → List registry_name.Name
 entered_by k (thing_name.BridgePort lane) = name.BridgePort lane ∷ []
-entered_by k (thing_name.Own v ip) = []
+entered_by k (thing_name.Own v ip) = map name.Row (router_names v)
 entered_by k (thing_name.Route v prefix) = map name.Row (router_names v)
 entered_by k n = name.Row k ∷ []
 

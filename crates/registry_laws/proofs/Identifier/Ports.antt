@@ -4,8 +4,6 @@ use Rattle.swss_types.proofs.Proper.{mapped}
 use Rattle.table_schema.specs.Plan.{IsPlan, Ports, port_named}
 use Rattle.table_schema.specs.declared.key.Key.{Key}
 use Rattle.table_schema.specs.declared.key.Key.TheVariants as key
-use Rattle.table_schema.specs.declared.row.Row.{Row}
-use Rattle.table_schema.specs.declared.row.Row.TheVariants as row
 use Rattle.sai_types.specs.declared.body.Call.{Call}
 use Rattle.sai_types.specs.declared.weight.WHop.{WHop}
 use Rattle.sai_types.specs.declared.ids.Rid.{Rid}
@@ -20,6 +18,8 @@ use Rattle.sai_types.specs.Names.{ThingName, name_of}
 use Rattle.sai_types.proofs.Membership.{in-either}
 use Rattle.switch_model.specs.Things.{lane_of}
 use Rattle.chip_layout.specs.Layout.{listed}
+use Rattle.switch_model.specs.Placed as row
+use Rattle.switch_model.specs.Placed.{Placed as Row}
 use Rattle.row_layout.specs.Operations.{Change, Make, Set, Take}
 use Rattle.row_layout.specs.Rows as owner
 use Rattle.row_layout.specs.Rows.{Owner, from, interface_on, own_things}
@@ -33,7 +33,7 @@ use Rattle.switch_machine.specs.Tables.{TableLaws}
 use Rattle.switch_machine.proofs.Calling.{shared_no_port}
 use Rattle.switch_machine.proofs.Kept.{same_stands}
 use Rattle.switch_machine.proofs.Moving.{fit_of}
-use Rattle.switch_machine.proofs.Running.{one_owner, shared_row}
+use Rattle.switch_machine.proofs.Running.{one_owner, shared_row, row_keys}
 use Rattle.switch_machine.proofs.Splits.{own_row_in, use_row_in}
 use Rattle.switch_machine.proofs.Tabled.{tabled}
 use Rattle.ref_counts.specs.Registry.{Names}
@@ -44,7 +44,7 @@ use Rattle.orch_flight.specs.Taking.{IsTook, names_after, now_after, operation_b
 use Rattle.registry_laws.specs.Answering.{IsOfGroup}
 use Rattle.registry_laws.specs.Flown.{flight_of}
 use Rattle.registry_laws.specs.Identified.{HoldsPort, PortsStand}
-use Rattle.registry_laws.proofs.Going.{none_new}
+use Rattle.registry_laws.proofs.Going.{GoesOver, going_how}
 
 -- ---- what is told by a name
 
@@ -183,7 +183,14 @@ module _ (plan : Ports) (is : IsPlan plan) (workers : ℕ) (capacities : List �
     set_holds u e set p h some = absurd (no_port u (λ r same. cc) set p h)
 
     take_apart : (n : ThingName) (p : PortThing) → (f.new ≡ None → ⊥) → Goes plan (flight_of f) n → n ≡ name_of (thing.Port p) → ⊥
-    take_apart n p some (inl (of, goes)) e = some (none_new f.new goes)
+    take_apart n p some (inl (of, goes)) e = by (going_how f.key f.now f.new goes)
+      where
+        by : (f.new ≡ None) ⊎ GoesOver f.key f.now f.new → ⊥
+        by (inl none) = some none
+        by (inr x) =
+            let m = mapped (λ q. owner.OfRow (key.Port q)) (port_named plan (first_lane p.lanes)) (owner.OfRow f.key) (subst (λ l. IsOwnedBy plan l (owner.OfRow f.key)) e of) in
+            let same : key.Port m.0 ≡ key.Intf x.on = row_keys (key.Port m.0) f.key m.2 ∙ x.key_is in
+            cc
     take_apart n p some (inr (o, of, retires)) e =
         let was = kept.sound.board.left x.next.worker (flight_of f) o flying retires in
         let m = mapped (λ q. owner.OfRow (key.Port q)) (port_named plan (first_lane p.lanes)) o (subst (λ l. IsOwnedBy plan l o) e of) in

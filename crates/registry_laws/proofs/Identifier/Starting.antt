@@ -1,28 +1,27 @@
 -- the names of an operation that starts, leaves what it shared, or ends, have the identifiers that they had
-use Rattle.std.proofs.Common.{◌≡◌, ◌∷◌, ◌∙◌, inl, inr, ℕ, true, List, [], Option, None, Some, option_map, refl, sym, ap, subst}
+use Rattle.std.proofs.Common.{◌≡◌, ◌∷◌, ◌∙◌, inl, inr, ℕ, true, List, [], Option, None, Some, option_map, refl, sym, ap, subst, Bool, false, if◌then◌else◌}
 use Rattle.table_schema.specs.Plan.{IsPlan, Ports}
 use Rattle.table_schema.specs.declared.key.Key.{Key}
-use Rattle.table_schema.specs.declared.row.Row.{Row}
-use Rattle.table_schema.specs.Names.{names_of}
 use Rattle.sai_types.specs.Alike.{IsIn}
 use Rattle.switch_model.specs.declared.wait.Wait.{Wait}
+use Rattle.switch_model.specs.Placed.{Placed as Row}
 use Rattle.row_layout.specs.Operations.{Change, uses_of}
 use Rattle.row_layout.specs.Rows as owner
 use Rattle.row_layout.specs.Rows.{Owner}
-use Rattle.switch_machine.specs.Flights.{IsShared}
+use Rattle.switch_machine.specs.Flights.{IsShared, goes_over}
 use Rattle.switch_machine.proofs.Running.{shared_row}
 use Rattle.switch_machine.proofs.Splits.{IsSplit, owner_split, use_row_in}
 use Rattle.switch_machine.proofs.Tabled.{are_shared_by}
 use Rattle.ref_counts.specs.declared.name.Name.TheVariants as name
 use Rattle.ref_counts.specs.declared.name.NameState.{NameState}
 use Rattle.ref_counts.specs.declared.name.NameState.TheVariants as state
-use Rattle.ref_counts.specs.Registered.{Registered, begun, made_live, with_user, without_user}
-use Rattle.ref_counts.specs.Registry.{Names, changed, finished_in, ids_by, ids_in, ids_of, retire_refusal_at, registered_at, state_in, state_of}
-use Rattle.ref_counts.proofs.Found.{pinned-kept}
-use Rattle.orch_flight.specs.Needing.{name_for, to_build}
+use Rattle.ref_counts.specs.Registered.{Registered, begun, made_live, with_user, without_user, released, begun_to_go}
+use Rattle.ref_counts.specs.Registry.{Names, changed, ids_by, ids_in, ids_of, retire_refusal_at, registered_at, state_in, state_of}
+use Rattle.ref_counts.proofs.Found.{pinned-kept, found-released}
+use Rattle.orch_flight.specs.Needing.{name_for, row_names, to_build}
 use Rattle.orch_flight.specs.Sharing.{MayStart}
 use Rattle.orch_flight.specs.Starting.{begun_names, first_due, ids_for, ids_for_row, leaving, left_names, parted_by, started_names, started_names_by, used_by, with_building, with_own, with_pins}
-use Rattle.registry_laws.specs.Ending.{ended_names, named_by, users_dropped, users_passed}
+use Rattle.registry_laws.specs.Ending.{ended_names, named_by, users_dropped, users_passed, MayEnd, come_to_be}
 use Rattle.registry_laws.proofs.Finding.{building_off, found_at, found_off, gone_off, own_off}
 use Rattle.registry_laws.proofs.Listing.{not_some}
 use Rattle.registry_laws.proofs.Sharing.{absent_first, left_apart}
@@ -94,22 +93,25 @@ module _ (plan : Ports) (is : IsPlan plan) (names : Names) (w : ℕ) (k : Key) (
     where
       by : (x : Option Row) → HaveSameIds names (with_pins names w k x)
       by None = λ p. refl
-      by (Some r) = ids_pinned names w k (names_of k r)
+      by (Some r) = ids_pinned names w k (row_names k r)
 
   pins_state : (p : Owner) → state_of pinned_names (name_for p) ≡ state_of names (name_for p)
   pins_state p = by new
     where
       by : (x : Option Row) → state_of (with_pins names w k x) (name_for p) ≡ state_of names (name_for p)
       by None = refl
-      by (Some r) = pinned-kept state_in w k (λ r. refl) names (names_of k r) (name_for p)
+      by (Some r) = pinned-kept state_in w k (λ r. refl) names (row_names k r) (name_for p)
 
   own_ids : HaveSameIds pinned_names own_names
   own_ids = by old new refl
     where
       by : (x y : Option Row) → old ≡ x → HaveSameIds pinned_names (with_own pinned_names w k x y)
       by None y e = ids_put pinned_names (owner.OfRow k) (begun w (ids_for_row k)) (pins_ids (owner.OfRow k) ∙ ids_absent names (owner.OfRow k) (may.absent e)) refl
-      by (Some a) None e = ids_going pinned_names (owner.OfRow k) w (live_unbuilt pinned_names (owner.OfRow k) (pins_state (owner.OfRow k) ∙ may.applied a e))
-      by (Some a) (Some r) e = λ p. refl
+      by (Some a) y e = of (goes_over k (Some a) y)
+        where
+          of : (b : Bool) → HaveSameIds pinned_names (if b then changed pinned_names (name.Row k) (begun_to_go w) else pinned_names)
+          of true = ids_going pinned_names (owner.OfRow k) w (live_unbuilt pinned_names (owner.OfRow k) (pins_state (owner.OfRow k) ∙ may.applied a e))
+          of false = λ p. refl
 
   -- what is built was absent
   build_absent : (o : Owner) (x : Option Row) → new ≡ x → to_build plan names k x ≡ Some o → IsIn o (uses_of plan k new) × (state_of names (name_for o) ≡ state.Absent)
@@ -164,14 +166,28 @@ ids_passed names w k old =
     let dropped = users_dropped names k (named_by k old) in
     ids_then names dropped (users_passed names w k old) (dropped_ids names k (named_by k old)) (ids_released dropped w true)
 
-pub ids_ended_live : (names : Names) (k : Key) (st : NameState) → state_of names (name.Row k) ≡ st → HaveSameIds names (finished_in st names (name.Row k))
-ids_ended_live names k (state.Building w) e = ids_changed names (owner.OfRow k) (made_live []) (λ r x. sym (ap (λ z. ids_by z r.ids) (sym (ap state_in x) ∙ e)))
-ids_ended_live names k _ e = λ p. refl
+dropped_state : (names : Names) (k : Key) (ps : List Key) (p : Owner) → state_of (users_dropped names k ps) (name_for p) ≡ state_of names (name_for p)
+dropped_state names k [] p = refl
+dropped_state names k (q ∷ ps) p = dropped_state (changed names (name.Row q) (without_user k)) k ps p ∙ state_kept names (owner.OfRow q) p (without_user k) (λ r. refl)
 
-pub ids_ended : (names : Names) (w : ℕ) (k : Key) (old : Option Row) (r : Row) → HaveSameIds names (ended_names names w k old (Some r))
-ids_ended names w k old r =
+pub state_passed : (names : Names) (w : ℕ) (k : Key) (old : Option Row) (p : Owner) → state_of (users_passed names w k old) (name_for p) ≡ state_of names (name_for p)
+state_passed names w k old p =
+    let dropped = users_dropped names k (named_by k old) in
+    ap state_in (found-released dropped w true (name_for p)) ∙ by (registered_at dropped (name_for p)) ∙ dropped_state names k (named_by k old) p
+  where
+    by : (x : Option Registered) → state_in (option_map (released w true) x) ≡ state_in x
+    by None = refl
+    by (Some r) = refl
+
+pub ids_ended_live : (names : Names) (k : Key) (st : NameState) → state_of names (name.Row k) ≡ st → ((v : ℕ) → st ≡ state.Retiring v → ids_of names (name.Row k) ≡ []) → HaveSameIds names (come_to_be st names (name.Row k))
+ids_ended_live names k (state.Building w) e none = ids_changed names (owner.OfRow k) (made_live []) (λ r x. sym (ap (λ z. ids_by z r.ids) (sym (ap state_in x) ∙ e)))
+ids_ended_live names k (state.Retiring v) e none = ids_changed names (owner.OfRow k) (made_live []) (λ r x. sym (sym (ap ids_in x) ∙ none v refl))
+ids_ended_live names k _ e none = λ p. refl
+
+pub ids_ended : (names : Names) (w : ℕ) (k : Key) (old : Option Row) (r : Row) → MayEnd names w k (Some r) → HaveSameIds names (ended_names names w k old (Some r))
+ids_ended names w k old r may =
     let passed = users_passed names w k old in
-    ids_then names passed (ended_names names w k old (Some r)) (ids_passed names w k old) (ids_ended_live passed k (state_of passed (name.Row k)) refl)
+    ids_then names passed (ended_names names w k old (Some r)) (ids_passed names w k old) (ids_ended_live passed k (state_of passed (name.Row k)) refl (λ v e. ids_passed names w k old (owner.OfRow k) ∙ (may v (sym (state_passed names w k old (owner.OfRow k)) ∙ e)).1))
 
 -- where its row goes, the other names have
 pub ids_ended_off : (names : Names) (w : ℕ) (k : Key) (old : Option Row) (p : Owner) → (owner.OfRow k ≡ p → ⊥) → ids_of (ended_names names w k old None) (name_for p) ≡ ids_of names (name_for p)

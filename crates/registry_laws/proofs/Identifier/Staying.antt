@@ -2,7 +2,6 @@
 use Rattle.std.proofs.Common.{◌≡◌, ◌∙◌, inl, inr, ℕ, Bool, true, cond, List, [], Option, None, Some, refl, sym, ap, subst}
 use Rattle.std.proofs.lemmas.Option.{same_Some}
 use Rattle.table_schema.specs.Plan.{Ports}
-use Rattle.table_schema.specs.declared.row.Row.{Row}
 use Rattle.sai_types.specs.declared.weight.WHop.{WHop}
 use Rattle.sai_types.specs.declared.ids.Rid.{Rid}
 use Rattle.sai_types.specs.declared.ids.Vid.{Vid}
@@ -10,6 +9,7 @@ use Rattle.sai_types.specs.declared.thing.Thing.{Thing}
 use Rattle.sai_types.specs.Alike.{IsIn}
 use Rattle.sai_types.specs.Names as thing_name
 use Rattle.sai_types.specs.Names.{ThingName, name_of}
+use Rattle.switch_model.specs.Placed.{Placed as Row}
 use Rattle.row_layout.specs.Operations.{uses_of}
 use Rattle.row_layout.specs.Rows as owner
 use Rattle.row_layout.specs.Shared.{shared_things}
@@ -24,7 +24,7 @@ use Rattle.ref_counts.specs.Registry.{Names, ids_of}
 use Rattle.orch_flight.specs.Calling.{member_vid, members_ids}
 use Rattle.orch_flight.specs.Grouping.{GroupOperation, HasGroupVid, first_group, first_group_due, group_ids}
 use Rattle.orch_flight.specs.Needing.{name_for}
-use Rattle.registry_laws.specs.Ending.{ended_names}
+use Rattle.registry_laws.specs.Ending.{ended_names, MayEnd}
 use Rattle.registry_laws.specs.Flown.{Flown}
 use Rattle.registry_laws.proofs.Listing.{not_some}
 use Rattle.registry_laws.specs.Identified.{HaveSameIds, Identified, IsPartlyBuilt, IsUnderWay, IsVidOf, KeepsBuilds}
@@ -94,9 +94,9 @@ module _ (plan : Ports) (m : Machine) (sound : IsConsistent plan m) (w : ℕ) (f
           not_final (inl x) = elim (subst (λ z. IsIn t (own_of plan f.key z)) none x) [ ]
           not_final (inr x) = elim (subst (λ z. IsIn x.0 (uses_of plan f.key z)) none x.1) [ ]
 
-  pub ended_identified : (old : Option Row) (v : ℕ) → Identified plan (ended_names names v f.key old f.new) rid flown m.stands
-  ended_identified old v = by f.new refl
+  pub ended_identified : (old : Option Row) (v : ℕ) → MayEnd names v f.key f.new → Identified plan (ended_names names v f.key old f.new) rid flown m.stands
+  ended_identified old v may = by f.new refl
     where
       by : (x : Option Row) → f.new ≡ x → Identified plan (ended_names names v f.key old x) rid flown m.stands
-      by (Some r) e = same_identified plan names rid flown m.stands known (ended_names names v f.key old (Some r)) (ids_ended names v f.key old r)
+      by (Some r) e = same_identified plan names rid flown m.stands known (ended_names names v f.key old (Some r)) (ids_ended names v f.key old r (subst (MayEnd names v f.key) e may))
       by None e = record { each = λ i t h numbered. let x = known.each i t h numbered in (x.0, vid_kept plan names (ended_names names v f.key old None) flown flown (λ w g at builds. at) (name_of t) x.0 (λ o of. ids_ended_off names v f.key old o (λ same. none_stands e i t h (of ∙ ap Some (sym same)))) x.1, x.2) }

@@ -4,6 +4,7 @@ use Rattle.std.specs.BTreeMap.{is_at}
 use Rattle.std.specs.Map.{remove_entry}
 use Rattle.table_schema.specs.Plan.{IsPlan, Ports}
 use Rattle.table_schema.specs.declared.key.Key.{Key}
+use Rattle.table_schema.specs.declared.key.Key.TheVariants as key
 use Rattle.sai_types.specs.declared.body.Call.{Call}
 use Rattle.sai_types.specs.declared.ids.Rid.{Rid}
 use Rattle.sai_types.specs.declared.ids.Vid.{Vid}
@@ -13,6 +14,7 @@ use Rattle.sai_types.specs.Names as thing_name
 use Rattle.sai_types.specs.Names.{ThingName, name_of}
 use Rattle.chip_layout.specs.Layout.{Layout, has_number, listed}
 use Rattle.chip_layout.proofs.Laid.{changed}
+use Rattle.switch_model.specs.Placed.{Placed as Row}
 use Rattle.row_layout.specs.Operations.{Change, Make, Set, Take}
 use Rattle.row_layout.specs.Rows as owner
 use Rattle.row_layout.specs.Rows.{Owner}
@@ -26,9 +28,11 @@ use Rattle.ref_counts.specs.declared.name.NameState.TheVariants as state
 use Rattle.ref_counts.specs.Registered.{Registered, made_live}
 use Rattle.ref_counts.specs.Registry as registry
 use Rattle.ref_counts.specs.Registry.{Names, gone_from, is_retiring, registered_name_cmp, registered_at, state_in, state_of}
+use Rattle.ref_counts.specs.declared.name.Name.{Name}
+use Rattle.ref_counts.specs.declared.name.Name.TheVariants as name
 use Rattle.orch_flight.specs.Needing.{name_for}
 use Rattle.orch_flight.specs.Operation.{Operation}
-use Rattle.orch_flight.specs.Taking.{IsTook, MayTake, names_after, names_by, to_list}
+use Rattle.orch_flight.specs.Taking.{IsTook, MayTake, names_after, names_by, to_list, MayBeLive}
 use Rattle.registry_laws.specs.Answering.{IsOfGroup}
 use Rattle.registry_laws.specs.Flown.{Flown, flight_of}
 use Rattle.registry_laws.proofs.Finding.{found_at, found_off, gone_off}
@@ -79,6 +83,14 @@ live_after names k (Take (thing_name.BridgePort lane)) made o live = live_gone n
 live_after names k (Take (thing_name.Own v ip)) made o live = live_gone names (owner.Own v ip) o live
 live_after names k (Take n) made o live = live_unbuilt names o live
 
+-- what may become live is there
+pub may_there : (names : Names) (w : ℕ) (n : Name) (now : Option Row) (ids : List Vid) → MayBeLive names w n now ids → state_of names n ≡ state.Absent → ⊥
+may_there names w (name.Row (key.Intf i)) (Some r) ids h e = no_going w (sym e ∙ h.0)
+  where
+    no_going : (w : ℕ) → state.Absent ≡ state.Retiring w → ⊥
+    no_going w h = cc
+may_there names w n now ids h e = no_absent w (sym e ∙ h.0)
+
 -- ---- the call is made
 
 module _ (plan : Ports) (is : IsPlan plan) (workers : ℕ) (capacities : List ℕ) (s t : SwitchState) (call : Call Rid) (x : IsAnswer plan workers call s t) (kept : IsSafe plan workers capacities s) (names : Names) (rid rid' : Vid → Option Rid) (flown : ℕ → Option Flown) (known : Identified plan names rid flown s.machine.stands) (builds : BuildsGroups names flown) where
@@ -90,7 +102,7 @@ module _ (plan : Ports) (is : IsPlan plan) (workers : ℕ) (capacities : List �
 
   module _ (f : Operation) (flying : s.machine.board.flights x.next.worker ≡ Some (flight_of f)) (made : Option Vid) (rest : List Change) (may : MayTake f made names) where
     after : (c : Change) (of : IsCall L c call) (i : Rid) → IsGiven L s.made c call of i → Can plan (flight_of f) (StandsIn s.machine) c → (IsOfGroup plan c → ⊥) → f.due ≡ c ∷ rest → TiesAfter plan names rid rid' c made i → (j : Rid) (u : Thing) → changed_by L c i j u → has_number u ≡ true → HasTied plan is s.machine kept.sound s.objects kept.laid names rid rid' flown known (names_after names f.key c made) (name_of u) j
-    after (Make z) of i given can alone due ties j u there numbered = make_tied plan is s.machine kept.sound s.objects kept.laid names rid rid' flown known x.next.worker (flight_of f) flying z can made i (λ hops e. alone (hops, e)) (λ n e. (f.worker, (may.builds z rest n due e).0)) ties j u there numbered
+    after (Make z) of i given can alone due ties j u there numbered = make_tied plan is s.machine kept.sound s.objects kept.laid names rid rid' flown known x.next.worker (flight_of f) flying z can made i (λ hops e. alone (hops, e)) (λ n e. may_there names f.worker n f.now (to_list made) (may.builds z rest n due e)) ties j u there numbered
     after (Set z) of i given can alone due ties j u there numbered =
         let same = changed L s.objects kept.laid of.old z of.body of.attr of.of of.change in
         set_tied plan is s.machine kept.sound s.objects kept.laid names rid rid' flown known z i (of.old, subst (λ y. L y of.old) (sym given) of.stands, sym same.same) ties j u there numbered

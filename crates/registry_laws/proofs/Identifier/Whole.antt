@@ -5,13 +5,13 @@ use Rattle.std.specs.Map.{remove_entry}
 use Rattle.std.proofs.lemmas.List.{append-nil}
 use Rattle.table_schema.specs.Fields.{HasRisingKeys}
 use Rattle.table_schema.specs.declared.key.Key.{Key}
-use Rattle.table_schema.specs.declared.row.Row.{Row}
 use Rattle.sai_types.specs.declared.weight.WHop.{WHop}
 use Rattle.sai_types.specs.declared.ids.Vid.{Vid}
 use Rattle.sai_types.specs.declared.thing.Thing.{Thing}
 use Rattle.sai_types.specs.declared.thing.Thing.TheVariants as thing
 use Rattle.sai_types.specs.Names as thing_name
 use Rattle.switch_model.proofs.Members.{members_count}
+use Rattle.switch_model.specs.Placed.{Placed as Row}
 use Rattle.row_layout.specs.Operations.{Change, Make, Set, Take, make_all}
 use Rattle.row_layout.specs.Rows as owner
 use Rattle.row_layout.specs.Rows.{Owner}
@@ -25,13 +25,14 @@ use Rattle.ref_counts.specs.Registry.{Names, changed, gone_from, ids_in, ids_of,
 use Rattle.orch_flight.specs.Grouping.{GroupOperation, IsGroupTook, group_names_by, members_with_made}
 use Rattle.orch_flight.specs.Operation.{Operation}
 use Rattle.orch_flight.specs.Taking.{IsTook, MayTake, names_after, names_by}
-use Rattle.registry_laws.specs.Ending.{ended_names}
+use Rattle.registry_laws.specs.Ending.{ended_names, users_passed}
 use Rattle.registry_laws.proofs.Finding.{gone_at, gone_off}
 use Rattle.registry_laws.specs.Identified.{HasWholeGroups, HaveSameIds, IsPartlyBuilt}
 use Rattle.registry_laws.proofs.Identifier.Changed.{made_off, made_owner}
 use Rattle.registry_laws.proofs.Identifier.Ids.{ids_live, ids_off}
-use Rattle.registry_laws.proofs.Identifier.Starting.{ids_ended, ids_ended_off, ids_left}
+use Rattle.registry_laws.proofs.Identifier.Starting.{ids_left, ids_passed}
 use Rattle.registry_laws.proofs.Identifier.Took.{live_after}
+use Rattle.registry_laws.proofs.Ended.{own_ended_off}
 
 -- the identifiers of a group are all of them, or none
 abbrev IsWholeWith : List WHop → List Vid → Type 0
@@ -45,8 +46,7 @@ pub whole_same : (names names' : Names) → HaveSameIds names names' → HasWhol
 whole_same names names' same whole = whole_as names names' whole (λ hops. same (owner.Group hops))
 
 pub whole_ended : (names : Names) (w : ℕ) (k : Key) (old new : Option Row) → HasWholeGroups names → HasWholeGroups (ended_names names w k old new)
-whole_ended names w k old (Some r) whole = whole_same names (ended_names names w k old (Some r)) (ids_ended names w k old r) whole
-whole_ended names w k old None whole = whole_as names (ended_names names w k old None) whole (λ hops. ids_ended_off names w k old (owner.Group hops) (λ e. cc))
+whole_ended names w k old new whole = whole_as names (ended_names names w k old new) whole (λ hops. ap ids_in (own_ended_off (users_passed names w k old) k new (owner.Group hops) (λ e. cc)) ∙ ids_passed names w k old (owner.Group hops))
 
 -- ---- a row's operation
 

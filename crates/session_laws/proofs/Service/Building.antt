@@ -32,7 +32,6 @@ use Rattle.ref_counts.specs.Room.{all_free, number_of_kind}
 use Rattle.orch_flight.specs.Sharing.{MayStart}
 use Rattle.registry_laws.specs.Flown.{Flown}
 use Rattle.registry_laws.specs.Making.{IsNextCall, MayTakeFor}
-use Rattle.registry_laws.specs.Registers.{AreUsed}
 use Rattle.registry_laws.specs.Standing.{HasBegun, StandsFor}
 use Rattle.registry_laws.proofs.Core.Empty.{stands_fresh}
 use Rattle.registry_laws.proofs.Core.Resting.{none_flies}
@@ -44,14 +43,14 @@ use Rattle.asic_view.specs.View.{ViewObjects, rid_at, used_of}
 use Rattle.syncd_core.specs.Synced.{CanCall, Calls, Changes, SyncState, current, view_in, with_temporary}
 use Rattle.syncd_core.specs.Tied.{tie_of}
 use Rattle.sync_tables.specs.Tables.{IsToSync}
-use Rattle.flight_board.specs.Applied.{row_at}
-use Rattle.flight_board.specs.Board.{BoardState, FlightState, IsBegunFor, IsPrepared, IsCallReady, IsTakenFor, IsUnflown, flight_on, flown_at, new_board}
+use Rattle.flight_board.specs.Applied.{placed_at, placed_for, row_at}
+use Rattle.flight_board.specs.Board.{BoardState, FlightState, IsBegunFor, IsPrepared, IsCallReady, IsTakenFor, IsUnflown, MayEndAtOnce, MayEndThen, flight_on, flown_at, new_board}
 use Rattle.warm_state.specs.declared.warm.Warm.TheVariants as warm
 use Rattle.session_laws.specs.Core.{CoreState, good_in}
-use Rattle.session_laws.specs.Events.{vid_made_by}
+use Rattle.session_laws.specs.Events.{CountObjects, vid_made_by}
 use Rattle.session_laws.specs.Standing.{IsSessionOf}
-use Rattle.session_laws.proofs.Answering.{answer_step, may as may_answer}
-use Rattle.session_laws.proofs.Beginnings.{begins, drops, may as may_begin, waits_on}
+use Rattle.session_laws.proofs.Answering.{answer_step, may as may_answer, may_end_then}
+use Rattle.session_laws.proofs.Beginnings.{begins, drops, ends_at_once, may as may_begin, waits_on}
 use Rattle.session_laws.proofs.Beside.{stands_with}
 use Rattle.session_laws.proofs.Counting.{counts}
 use Rattle.session_laws.proofs.Preparing.{can, has_begun, prepared_stands, ready}
@@ -165,7 +164,7 @@ module _ (first : CoreState) (chip : ChipState) (s : LoggedService) (is : IsServ
 -- ---- what syncd counts
 
 module _ (c : CoreState) (own_chip : ChipState) (own : LoggedService) (over : IsViewOver c own_chip own) where
-  pub counted-over : (numbers : List ℕ) → ((kind : Kind) → number_of_kind numbers kind ≡ used_of (current c.sync) kind) → AreUsed own.service.core.objects numbers
+  pub counted-over : (numbers : List ℕ) → ((kind : Kind) → number_of_kind numbers kind ≡ used_of (current c.sync) kind) → CountObjects own.service.core.objects numbers
   counted-over numbers are =
       counts (over_view c over.view) own_chip own numbers over.session refl
       (λ kind. are kind ∙ ap (λ o. used_of (view_in c.sync.view o) kind) over.temporary ∙ untied-used over.view kind)
@@ -209,11 +208,15 @@ module _ (first c : CoreState) (k : Key) (rest : List Key) (x : IsBuilt first c 
       }
 
   module _ (differs : IsUnflown c.board k → row_at c.board.applied k ≡ good_in c k → ⊥) where
-    pub may-begin : IsUnflown c.board k → MayStart c.board.plan c.board.names 0 k (row_at c.board.applied k) (good_in c k)
+    pub may-begin : IsUnflown c.board k → MayStart c.board.plan c.board.names 0 k (placed_at c.board.applied k) (placed_for c.board.applied k (good_in c k))
     may-begin un = may_begin seen x.own_chip x.own x.over.session refl k there 0 none_less (x.free 0 none_less) differs un
 
+    -- where no call is due for it, it ends at once
+    pub ends-begun : (numbers : List ℕ) → ((kind : Kind) → number_of_kind numbers kind ≡ used_of (current c.sync) kind) → IsUnflown c.board k → MayEndAtOnce c.board numbers 0 k (good_in c k)
+    ends-begun numbers are un = ends_at_once seen x.own_chip x.own x.over.session refl k there 0 none_less (x.free 0 none_less) differs numbers (counted-over c x.own_chip x.own x.over numbers are) order un
+
     module _ (numbers : List ℕ) (are : (kind : Kind) → number_of_kind numbers kind ≡ used_of (current c.sync) kind) (b : BoardState) where
-      used : AreUsed x.own.service.core.objects numbers
+      used : CountObjects x.own.service.core.objects numbers
       used = counted-over c x.own_chip x.own x.over numbers are
 
       -- it waits
@@ -308,6 +311,9 @@ module _ (first c : CoreState) (rest : List Key) (x : IsBringing first c rest) w
       pub may-take : MayTakeFor f.operation f.group (vid_made_by a) c.board.names
       may-take = may_answer seen_now x.own_chip x.own x.over.session refl 0 f there begun call told a over_chip.went over_chip.view' (chip_then x.own_chip d) over_chip.made
 
+      pub may-end : MayEndThen c.board 0 (vid_made_by a)
+      may-end = may_end_then seen_now x.own_chip x.own x.over.session refl 0 f there begun call told a over_chip.went over_chip.view' (chip_then x.own_chip d) over_chip.made
+
       pub bringing-next : (b : BoardState) → IsTakenFor c.board 0 (vid_made_by a) b → IsBringing first (record c { board = b; sync = with_temporary c.sync later }) rest
       bringing-next b taken =
           let y = answer_step seen_now x.own_chip x.own x.over.session refl 0 f there begun call told a over_chip.went over_chip.view' (chip_then x.own_chip d) over_chip.made b taken in
@@ -338,6 +344,9 @@ module _ (first c : CoreState) (rest : List Key) (x : IsBringing first c rest) w
 
     pub may-take-called : MayTakeFor f.operation f.group (vid_made_by a) c.board.names
     may-take-called = may-take f there begun call told a calls_view.0 calls_view.2
+
+    pub ends-called : MayEndThen c.board 0 (vid_made_by a)
+    ends-called = may-end f there begun call told a calls_view.0 calls_view.2
 
     pub bringing-called : (b : BoardState) → IsTakenFor c.board 0 (vid_made_by a) b → IsBringing first (record c { board = b; sync = y }) rest
     bringing-called b taken = subst (λ z. IsBringing first (record c { board = b; sync = z }) rest) (sym calls_view.1) (bringing-next f there begun call told a calls_view.0 calls_view.2 b taken)

@@ -23,6 +23,7 @@ use Rattle.chip_names.specs.Naming.{entries_of}
 use Rattle.chip_layout.specs.Layout.{has_number}
 use Rattle.switch_model.specs.History.{listed_by}
 use Rattle.switch_model.specs.Marks.{sent_writes, written_key}
+use Rattle.switch_model.specs.Placed.{bare_rows}
 use Rattle.switch_machine.specs.Events.{SwitchState}
 use Rattle.switch_machine.specs.Flights.{StandsIn}
 use Rattle.switch_machine.specs.Written.{HasNoWrite, Written}
@@ -122,7 +123,7 @@ pub record IsApplyingCore (c : CoreState) (s : Service) : Type 0 where
   pub made : ℕ
   pub objects : Objects
   pub stands : StandsFor c.board.plan c.sync.capacities c.board.names c.board.room (flown_at c.board) rid (with_chip s.core made objects)
-  pub rows : (k : Key) → s.core.machine.board.applied k ≡ row_at c.board.applied k
+  pub rows : (k : Key) → bare_rows s.core.machine.board.applied k ≡ row_at c.board.applied k
   pub things : List (Vid × Thing)
   pub into : (t : Thing) → StandsIn s.core.machine t → IsIn t (things_in things)
   pub back : (t : Thing) → IsIn t (things_in things) → StandsIn s.core.machine t

@@ -9,7 +9,7 @@ pub returns-clause-reads : goal.returns-clause-reads
 returns-clause-reads c = λ text. switched-key_of text
 
 pub returns-clause-fits : goal.returns-clause-fits
-returns-clause-fits c = λ plan applied k fields r fit closed on h names. fits-good plan applied fit closed k fields r on h names
+returns-clause-fits c = λ plan applied k fields r fit closed on h names u. fits-good plan applied fit closed k fields r u on h names
 
 pub returns-clause-begins : goal.returns-clause-begins
 returns-clause-begins c = λ plan workers capacities s w k is kept quiet on ready free. begin-free plan is workers capacities s w k kept quiet on ready free

@@ -1,4 +1,6 @@
 use Rattle.std.proofs.Common.{None, refl, Some}
+use Rattle.swss_types.specs.declared.vrf.Vrf.TheVariants as vrf
+use Rattle.switch_model.specs.Placed.{place}
 use Rattle.table_schema.specs.declared.key.Key.TheVariants as key
 use Rattle.orch_flight.proofs.Rows.{row-begins}
 use Rattle.neigh_orch.proofs.Starts.{added-places, leaves-nothing, made}
@@ -6,6 +8,6 @@ use Rattle.neigh_orch.proofs.starting.add.Goals as goal
 
 pub returns-clause-begun : goal.returns-clause-begun
 returns-clause-begun c =
-    row-begins c.args._plan.now c.args.reg.now c.args.room.now c.args.used.now c.args.worker (key.Neigh c.args.on c.args.ip.now) None c.args._new.now None made c.start_row.new.reg c.start_row.new.room c.start_row.result
-    refl (λ none. leaves-nothing c.args._plan.now c.args.on c.args.ip.now None (Some c.args._new.now)) (λ none. added-places c.args._plan.now c.args.on c.args.ip.now c.args._new.now (c.requires.may.new_fits c.args._new.now refl none))
+    row-begins c.args._plan.now c.args.reg.now c.args.room.now c.args.used.now c.args.worker (key.Neigh c.args.on c.args.ip.now) None (place vrf.Default c.args._new.now) None made c.start_row.new.reg c.start_row.new.room c.start_row.result
+    refl refl (λ none. leaves-nothing c.args._plan.now c.args.on c.args.ip.now None (Some (place vrf.Default c.args._new.now))) (λ none. added-places c.args._plan.now c.args.on c.args.ip.now (place vrf.Default c.args._new.now) (c.requires.may.new_fits (place vrf.Default c.args._new.now) refl none))
     c.start_row.ensures.free c.start_row.ensures.names c.start_row.ensures.places c.start_row.ensures.wait c.start_row.ensures.none c.start_row.ensures.none_room

@@ -5,5 +5,5 @@ use Rattle.late_maps.specs.Segments.{renamed}
 use Rattle.ref_counts.proofs.places.least_route.Given as goal
 
 -- no user so far
-abbrev pub invariant-loop-vrf : goal.invariant-loop-vrf
-invariant-loop-vrf l = users_in (renamed route_key l.vrf-iterator) l.pins ≡ users_in (renamed route_key l.routes) l.pins
+abbrev pub invariant-loop-route : goal.invariant-loop-route
+invariant-loop-route l = users_in (renamed route_key l.route-iterator) l.pins ≡ users_in (renamed route_key l.routes) l.pins

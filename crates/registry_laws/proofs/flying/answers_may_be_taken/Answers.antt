@@ -2,7 +2,7 @@ use Rattle.registry_laws.proofs.Taking.{group_stands, held_stands, may_take, may
 use Rattle.registry_laws.proofs.flying.answers_may_be_taken.Goals as goal
 
 pub returns-clause-row : goal.returns-clause-row
-returns-clause-row c = λ plan capacities names room flown m w x made is sound board at none builds takes numbered. may_take plan is capacities names room flown m sound board w x at none builds takes made numbered
+returns-clause-row c = λ plan capacities names room flown m w x made is sound board at interfaces none builds takes numbered. may_take plan is capacities names room flown m sound board w x at interfaces none builds takes made numbered
 
 pub returns-clause-group : goal.returns-clause-group
 returns-clause-group c = λ plan capacities names room flown m w x g made is sound board at has number. may_take_group plan is capacities names room flown m sound board w x at g has made number

@@ -11,7 +11,7 @@ pub returns-clause-left : goal.returns-clause-left
 returns-clause-left c = λ plan names rid flown stands w k o live known. same_identified plan names rid flown stands known (left_names names w k o) (ids_left names w k o (live_unbuilt names o live))
 
 pub returns-clause-ended : goal.returns-clause-ended
-returns-clause-ended c = λ plan m names rid flown w f old sound ends known. ended_identified plan m sound w f ends names rid flown known old w
+returns-clause-ended c = λ plan m names rid flown w f old sound ends may known. ended_identified plan m sound w f ends names rid flown known old w may
 
 pub returns-clause-same : goal.returns-clause-same
 returns-clause-same c = λ plan names names' rid flown stands same known. same_identified plan names rid flown stands known names' same

@@ -1,4 +1,4 @@
-use Rattle.session_laws.proofs.Service.Building.{bringing-first, built-drop, built-first, built-wait, may-begin, there-tried}
+use Rattle.session_laws.proofs.Service.Building.{bringing-first, built-drop, built-first, built-wait, ends-begun, may-begin, there-tried}
 use Rattle.session_laws.proofs.Service.Giving.{given-up}
 use Rattle.session_laws.proofs.services.rows_are_gone_over.Goals as goal
 
@@ -13,6 +13,9 @@ returns-clause-drops c = λ first core k rest x order un same. built-drop first 
 
 pub returns-clause-may : goal.returns-clause-may
 returns-clause-may c = λ first core k rest x order differs un. may-begin first core k rest x order differs un
+
+pub returns-clause-over : goal.returns-clause-over
+returns-clause-over c = λ first core k rest numbers x order differs are un. ends-begun first core k rest x order differs numbers are un
 
 pub returns-clause-waits : goal.returns-clause-waits
 returns-clause-waits c = λ first core k rest numbers r b x order differs are h. built-wait first core k rest x order differs numbers are b r h

@@ -1,5 +1,5 @@
 use Rattle.session_laws.proofs.Preparing.{can}
-use Rattle.orch_core.proofs.Answers.{calls_kept, can_kept, made, may_heed, with_sync}
+use Rattle.orch_core.proofs.Answers.{calls_kept, can_kept, ends_heed, made, may_heed, with_sync}
 use Rattle.orch_core.proofs.state.Core.make.Goals as goal
 
 pub call_chip-requires : goal.call_chip-requires
@@ -15,6 +15,15 @@ heed-requires-clause-may g c =
     let call = c.in-Ok.ensures.ok in
     let x = c.requires.flying in
     may_heed c.requires.session.0 c.args.worker c.args.self.now (g.C.Chip.state c.args.chip.now) c.requires.session.1 c.requires.warm x.0 x.1 x.2 c.args.call.now x.3 c.requires.room call.0 (g.C.Chip.state c.call_chip.new.chip) c.call_chip.new.self
+    (with_sync c.args.self.now c.keep_place.new.self c.call_chip.new.self call.0 kept.1 call.2) c.in-Ok.answer
+    (calls_kept c.args.self.now c.keep_place.new.self (g.C.Chip.state c.args.chip.now) (g.C.Chip.state c.call_chip.new.chip) c.args.call.now c.in-Ok.answer call.0 kept.1 call.1)
+
+pub heed-requires-clause-ends : goal.heed-requires-clause-ends
+heed-requires-clause-ends g c =
+    let kept = c.in_ok-log.ensures.ok in
+    let call = c.in-Ok.ensures.ok in
+    let x = c.requires.flying in
+    ends_heed c.requires.session.0 c.args.worker c.args.self.now (g.C.Chip.state c.args.chip.now) c.requires.session.1 c.requires.warm x.0 x.1 x.2 c.args.call.now x.3 c.requires.room call.0 (g.C.Chip.state c.call_chip.new.chip) c.call_chip.new.self
     (with_sync c.args.self.now c.keep_place.new.self c.call_chip.new.self call.0 kept.1 call.2) c.in-Ok.answer
     (calls_kept c.args.self.now c.keep_place.new.self (g.C.Chip.state c.args.chip.now) (g.C.Chip.state c.call_chip.new.chip) c.args.call.now c.in-Ok.answer call.0 kept.1 call.1)
 

@@ -1,7 +1,9 @@
 use Rattle.std.proofs.Common.{◌∙◌, refl, sym, subst}
-use Rattle.flight_board.specs.Applied.{row_at}
+use Rattle.flight_board.specs.Applied.{placed_at, placed_for}
+use Rattle.flight_board.specs.Board.{MayEndAtOnce}
 use Rattle.orch_flight.specs.Sharing.{MayStart}
-use Rattle.session_laws.proofs.Beginnings.{may}
+use Rattle.session_laws.proofs.Beginnings.{ends_at_once, may}
+use Rattle.session_laws.proofs.Counting.{counts}
 use Rattle.orch_core.specs.Outcomes.{Begun}
 use Rattle.orch_core.proofs.Answers.{never}
 use Rattle.orch_core.proofs.Tries.{dropped, tries}
@@ -16,9 +18,18 @@ pub begin-requires-clause-may : goal.begin-requires-clause-may
 begin-requires-clause-may c = λ un.
     let chip = c.requires.session.0 in
     let s = c.requires.session.1 in
-    subst (MayStart c.args.self.now.board.plan c.args.self.now.board.names c.args.worker c.args.key.now (row_at c.args.self.now.board.applied c.args.key.now)) (sym c.requires.row)
+    subst (λ o. MayStart c.args.self.now.board.plan c.args.self.now.board.names c.args.worker c.args.key.now (placed_at c.args.self.now.board.applied c.args.key.now) (placed_for c.args.self.now.board.applied c.args.key.now o)) (sym c.requires.row)
     (may c.args.self.now chip s.0 s.1 c.requires.warm c.args.key.now c.requires.key c.args.worker c.requires.worker c.requires.none
     (λ free. never c.is_there.result c.if-is_there.false (λ h. c.is_there.ensures.other free (h ∙ sym (c.as_ref.ensures.value ∙ c.requires.row)))) un)
+
+pub begin-requires-clause-ends : goal.begin-requires-clause-ends
+begin-requires-clause-ends c = λ used are un.
+    let chip = c.requires.session.0 in
+    let s = c.requires.session.1 in
+    subst (λ o. MayEndAtOnce c.args.self.now.board used c.args.worker c.args.key.now o) (sym c.requires.row)
+    (ends_at_once c.args.self.now chip s.0 s.1 c.requires.warm c.args.key.now c.requires.key c.args.worker c.requires.worker c.requires.none
+    (λ free. never c.is_there.result c.if-is_there.false (λ h. c.is_there.ensures.other free (h ∙ sym (c.as_ref.ensures.value ∙ c.requires.row))))
+    used (counts c.args.self.now chip s.0 used s.1 c.requires.warm are) c.requires.order un)
 
 pub returns : goal.returns
 returns c = λ s chip is.

@@ -9,7 +9,7 @@ pub returns-in-Neigh : goal.returns-in-Neigh
 returns-in-Neigh c = c.get.ensures ∙ (neighbor-stands c.self.inside c.self.invariant (c.in-Neigh.on, c.in-Neigh.ip)).found ∙ ap₂ registered_at c.self.view_is (ap name.Row (sym c.in-Neigh.is))
 
 pub returns-in-Route : goal.returns-in-Route
-returns-in-Route c = c.get-in-Route.ensures ∙ (route-stands c.self.inside c.self.invariant (c.in-Route.vrf, c.in-Route.prefix)).found ∙ ap₂ registered_at c.self.view_is (ap name.Row (sym c.in-Route.is))
+returns-in-Route c = c.get-in-Route.ensures ∙ (route-stands c.self.inside c.self.invariant (record { vrf = c.in-Route.vrf; prefix = c.in-Route.prefix })).found ∙ ap₂ registered_at c.self.view_is (ap name.Row (sym c.in-Route.is))
 
 pub returns-in-Other : goal.returns-in-Other
 returns-in-Other c =

@@ -1,8 +1,0 @@
-use Rattle.intf_orch.proofs.Interfaces.{interface-changed}
-use Rattle.intf_orch.proofs.interface.change.Goals as goal
-
-pub returns-clause-started : goal.returns-clause-started
-returns-clause-started c =
-    interface-changed c.args._plan.now c.args.on c.args.reg.now c.args.room.now c.args.used.now c.args.worker c.args._old.now c.args._new.now c.begin.new.reg c.begin.new.room c.in_ok-begun.begun c.and.result
-    c.and.ensures c.requires.may
-    c.in_ok-begun.ensures.free c.in_ok-begun.ensures.names c.in_ok-begun.ensures.places c.in_ok-begun.ensures.wait c.in_ok-begun.ensures.none c.in_ok-begun.ensures.none_room
