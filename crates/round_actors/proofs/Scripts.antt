@@ -4,7 +4,7 @@ use Rattle.std.specs.List.{AllByRecursion}
 use Rattle.table_schema.specs.Writes.{HasField, HasReadKey}
 use Rattle.intake_queue.specs.ReadWrites.{AreReadWrites, IsReadWrite}
 use Rattle.swss_script.specs.Script.{script_of}
-use Rattle.swss_script.specs.Sections.{Placed, acts_of, acts_writes, producer_name, rounds_writes, script_writes, sections_writes}
+use Rattle.swss_script.specs.Sections.{PlacedWrite, acts_of, acts_writes, producer_name, rounds_writes, script_writes, sections_writes}
 use Rattle.swss_script.specs.Stage.{AreOfProducers, IsProducerNumber}
 use Rattle.swss_script.specs.declared.parts.Act.{Act}
 use Rattle.swss_script.specs.declared.parts.Act.TheVariants as act
@@ -35,8 +35,8 @@ all-at P (y ∷ xs) (suc at) x h is = all-at P xs at x h.1 is
 
 -- ---- writes
 
-abbrev AreRead : List Placed → Type 0
-AreRead writes = AllByRecursion (λ (p : Placed). IsReadWrite p.write) writes
+abbrev AreRead : List PlacedWrite → Type 0
+AreRead writes = AllByRecursion (λ (p : PlacedWrite). IsReadWrite p.write) writes
 
 -- the writes of sections were read
 abbrev HaveRead : List Section → Type 0
@@ -50,15 +50,15 @@ acts-read round name (act.Restart ∷ acts) h = acts-read round name acts h
 sections-read : (names : List (List ℕ)) (round : ℕ) (sections : List Section) → AreRead (sections_writes names round sections) → HaveRead sections
 sections-read names round [] h i d l = absurd (omega arith)
 sections-read names round (section ∷ sections) h zero d l =
-    acts-read round (producer_name names section.producer) section.acts (all-front (λ (p : Placed). IsReadWrite p.write) (acts_writes round (producer_name names section.producer) section.acts) (sections_writes names round sections) h)
+    acts-read round (producer_name names section.producer) section.acts (all-front (λ (p : PlacedWrite). IsReadWrite p.write) (acts_writes round (producer_name names section.producer) section.acts) (sections_writes names round sections) h)
 sections-read names round (section ∷ sections) h (suc i) d l =
-    sections-read names round sections (all-back (λ (p : Placed). IsReadWrite p.write) (acts_writes round (producer_name names section.producer) section.acts) (sections_writes names round sections) h) i d (omega arith)
+    sections-read names round sections (all-back (λ (p : PlacedWrite). IsReadWrite p.write) (acts_writes round (producer_name names section.producer) section.acts) (sections_writes names round sections) h) i d (omega arith)
 
 rounds-read : (names : List (List ℕ)) (number : ℕ) (rounds : List Round) → AreRead (rounds_writes names number rounds) → AllByRecursion (λ r. HaveRead r.sections) rounds
 rounds-read names number [] h = tt
 rounds-read names number (r ∷ rounds) h = (
-  sections-read names number r.sections (all-front (λ (p : Placed). IsReadWrite p.write) (sections_writes names number r.sections) (rounds_writes names (number + 1) rounds) h),
-  rounds-read names (number + 1) rounds (all-back (λ (p : Placed). IsReadWrite p.write) (sections_writes names number r.sections) (rounds_writes names (number + 1) rounds) h),
+  sections-read names number r.sections (all-front (λ (p : PlacedWrite). IsReadWrite p.write) (sections_writes names number r.sections) (rounds_writes names (number + 1) rounds) h),
+  rounds-read names (number + 1) rounds (all-back (λ (p : PlacedWrite). IsReadWrite p.write) (sections_writes names number r.sections) (rounds_writes names (number + 1) rounds) h),
 )
 
 -- ---- scripts
@@ -79,7 +79,7 @@ module _ (producers : ℕ) where
 pub rounds-can_run : (bytes : List ℕ) (script : Script) → script_of bytes ≡ Ok script → AllByRecursion (λ r. AreSectionsOf (length script.producers) r.sections) script.rounds
 rounds-can_run bytes script is =
     rounds-run (length script.producers) script.rounds (stage-of_script bytes script is).numbers (acts-few bytes script is)
-    (rounds-read script.producers 1 script.rounds (all-pairs (λ (p : Placed). HasReadKey p.write) (λ (p : Placed). HasField p.write) (script_writes script) (keys-were_read bytes script is) (sets-have_fields bytes script is)))
+    (rounds-read script.producers 1 script.rounds (all-pairs (λ (p : PlacedWrite). HasReadKey p.write) (λ (p : PlacedWrite). HasField p.write) (script_writes script) (keys-were_read bytes script is) (sets-have_fields bytes script is)))
 
 pub sections-can_run : (bytes : List ℕ) (script : Script) (at : ℕ) (round : Round) → script_of bytes ≡ Ok script → slice_get script.rounds at ≡ Some round → AreSectionsOf (length script.producers) round.sections
 sections-can_run bytes script at round is here = all-at (λ r. AreSectionsOf (length script.producers) r.sections) script.rounds at round (rounds-can_run bytes script is) here

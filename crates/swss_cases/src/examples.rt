@@ -1,6 +1,7 @@
-// Examples, which are the cases of the kind `examples`: scripts with what they print. Each file NAME.swss of a folder is a
-// script; NAME.out beside it is what the program writes for it, and NAME.err, where there is one, the line of its status.
-// What differs is printed by the name of the example.
+// Examples, which are the cases of the kind `examples`: runs with what they print. Each file NAME.out of a folder is what the
+// program writes, and NAME.err beside it, where there is one, the line of its status. NAME.swss is the script that it reads, which
+// is empty where there is none, and NAME.words holds its words, each on a line of its own: `run` where there is none. NAME.view, where
+// there is one, is what `view` writes for the same script. What differs is printed by the name of the example.
 use anyhow::{Context, Result};
 use part_cases::tally::Tally;
 use std::alloc::Global;
@@ -14,6 +15,8 @@ use swss_types::{MemSink, MemSource, Open};
 const OTHER_OUTPUT: &str = "standard output is not NAME.out";
 
 const OTHER_LINE: &str = "the line of the status is not NAME.err";
+
+const OTHER_VIEW: &str = "the view is not NAME.view";
 
 /// Runs the examples of a folder.
 pub fn run<R: Files + AllocGlobal + Clone + Drop + Threads + Wait + Sync + Print>(
@@ -32,7 +35,7 @@ pub fn run<R: Files + AllocGlobal + Clone + Drop + Threads + Wait + Sync + Print
     Ok(tally)
 }
 
-/// The names of the examples in the folder, rising: those of its files NAME.swss.
+/// The names of the examples in the folder, rising: those of its files NAME.out.
 fn names_in<R: Files + AllocGlobal + Clone + Drop>(
     rt: &R,
     alloc: Global,
@@ -41,7 +44,7 @@ fn names_in<R: Files + AllocGlobal + Clone + Drop>(
     let mut names = Vec::new(alloc);
     for entry in fs::read_dir(rt, folder)? {
         let entry = entry?;
-        if let Some(name) = entry.file_name().strip_suffix(".swss") {
+        if let Some(name) = entry.file_name().strip_suffix(".out") {
             names.push(String::from_str(alloc, name)?)?;
         }
     }
@@ -63,15 +66,54 @@ fn run_example<R: Files + AllocGlobal + Threads + Wait + Sync>(
     folder: &str,
     name: &str,
 ) -> Result<Option<&'static str>> {
-    let found = run_script(rt, alloc, file(rt, alloc, folder, name, "swss")?)?;
+    let words = words_of(rt, alloc, folder, name)?;
+    let script = file_if_there(rt, alloc, folder, name, "swss")?;
+    let found = run_script(rt, alloc, &words, script)?;
     let wanted = wanted(rt, alloc, folder, name)?;
     Ok(if found.output != wanted.output {
         Some(OTHER_OUTPUT)
     } else if found.line != wanted.line {
         Some(OTHER_LINE)
+    } else if !is_viewed(rt, alloc, folder, name)? {
+        Some(OTHER_VIEW)
     } else {
         None
     })
+}
+
+/// Whether `view` writes NAME.view for the script of an example, where there is such a file.
+fn is_viewed<R: Files + AllocGlobal + Threads + Wait + Sync>(
+    rt: &R,
+    alloc: Global,
+    folder: &str,
+    name: &str,
+) -> Result<bool> {
+    if !fs::exists(rt, path(alloc, folder, name, "view")?)? {
+        return Ok(true);
+    }
+    let mut words = Vec::new(alloc);
+    words.push(String::from_str(alloc, "view")?)?;
+    let script = file(rt, alloc, folder, name, "swss")?;
+    let found = run_script(rt, alloc, &words, script)?;
+    Ok(found.output == file(rt, alloc, folder, name, "view")?)
+}
+
+/// The words of an example.
+fn words_of<R: Files + AllocGlobal>(
+    rt: &R,
+    alloc: Global,
+    folder: &str,
+    name: &str,
+) -> Result<Vec<String>> {
+    let mut words = Vec::new(alloc);
+    let lines = file_if_there(rt, alloc, folder, name, "words")?;
+    for line in str::from_utf8(&lines)?.lines() {
+        words.push(String::from_str(alloc, line)?)?;
+    }
+    if words.is_empty() {
+        words.push(String::from_str(alloc, "run")?)?;
+    }
+    Ok(words)
 }
 
 /// What stands beside an example.
@@ -81,21 +123,21 @@ fn wanted<R: Files + AllocGlobal>(
     folder: &str,
     name: &str,
 ) -> Result<Written> {
-    let line = match fs::exists(rt, path(alloc, folder, name, "err")?)? {
-        true => file(rt, alloc, folder, name, "err")?,
-        false => Vec::new(alloc),
-    };
+    let line = file_if_there(rt, alloc, folder, name, "err")?;
     let output = file(rt, alloc, folder, name, "out")?;
     Ok(Written { output, line })
 }
 
-/// What a script prints.
-fn run_script<R: Threads + Wait + Sync>(rt: &R, alloc: Global, script: Vec<u8>) -> Result<Written> {
-    let mut words = Vec::new(alloc);
-    words.push(String::from_str(alloc, "run")?)?;
+/// What the program prints for these words and this script.
+fn run_script<R: Threads + Wait + Sync>(
+    rt: &R,
+    alloc: Global,
+    words: &[String],
+    script: Vec<u8>,
+) -> Result<Written> {
     let mut source = MemSource::new(script, Vec::new(alloc));
     let mut sink = MemSink::new(alloc, Vec::new(alloc));
-    let outcome = swss_main(rt, alloc, &words, &mut source, &mut sink, &Open);
+    let outcome = swss_main(rt, alloc, words, &mut source, &mut sink, &Open);
     let line = printed(alloc, &outcome.into_status())?;
     let output = sink.held().to_vec(alloc)?;
     Ok(Written { output, line })
@@ -120,6 +162,20 @@ fn file<R: Files + AllocGlobal>(
 ) -> Result<Vec<u8>> {
     let path = path(alloc, folder, name, ending)?;
     fs::read(rt, &path).context("a file beside an example")
+}
+
+/// The bytes of a file of an example, and none where there is no such file.
+fn file_if_there<R: Files + AllocGlobal>(
+    rt: &R,
+    alloc: Global,
+    folder: &str,
+    name: &str,
+    ending: &str,
+) -> Result<Vec<u8>> {
+    match fs::exists(rt, path(alloc, folder, name, ending)?)? {
+        true => file(rt, alloc, folder, name, ending),
+        false => Ok(Vec::new(alloc)),
+    }
 }
 
 /// Where a file of an example stands.

@@ -5,7 +5,7 @@ use Rattle.std.proofs.lemmas.List.{map-append}
 use Rattle.table_schema.specs.Rows.{Rows, after_writes}
 use Rattle.table_schema.specs.declared.write.Write.{Write}
 use Rattle.producer_table.proofs.RowWrites.{after_writes-append}
-use Rattle.swss_script.specs.Sections.{Placed, acts_of, acts_writes, producer_name, rounds_writes, sections_writes}
+use Rattle.swss_script.specs.Sections.{PlacedWrite, acts_of, acts_writes, producer_name, rounds_writes, sections_writes}
 use Rattle.swss_script.specs.declared.parts.Act.{Act}
 use Rattle.swss_script.specs.declared.parts.Act.TheVariants as act
 use Rattle.swss_script.specs.declared.parts.Round.{Round}
@@ -23,8 +23,8 @@ after_section rows section = after_writes rows (acts_of section.acts)
 abbrev pub after_round : Rows → Round → Rows
 after_round rows round = fold after_section rows round.sections
 
-abbrev writes_placed : List Placed → List Write
-writes_placed placed = map (λ (p : Placed). p.write) placed
+abbrev writes_placed : List PlacedWrite → List Write
+writes_placed placed = map (λ (p : PlacedWrite). p.write) placed
 
 acts-placed : (round : ℕ) (name : List ℕ) (acts : List Act) → writes_placed (acts_writes round name acts) ≡ acts_of acts
 acts-placed round name [] = refl
@@ -32,8 +32,8 @@ acts-placed round name (act.Write write ∷ acts) = ap (λ l. write ∷ l) (acts
 acts-placed round name (act.Restart ∷ acts) = acts-placed round name acts
 
 -- placed writes behind others
-behind-placed : (rows : Rows) (first more : List Placed) → after_writes (after_writes rows (writes_placed first)) (writes_placed more) ≡ after_writes rows (writes_placed (first ++ more))
-behind-placed rows first more = sym (after_writes-append rows (writes_placed first) (writes_placed more)) ∙ ap (after_writes rows) (sym (map-append (λ (p : Placed). p.write) first more))
+behind-placed : (rows : Rows) (first more : List PlacedWrite) → after_writes (after_writes rows (writes_placed first)) (writes_placed more) ≡ after_writes rows (writes_placed (first ++ more))
+behind-placed rows first more = sym (after_writes-append rows (writes_placed first) (writes_placed more)) ∙ ap (after_writes rows) (sym (map-append (λ (p : PlacedWrite). p.write) first more))
 
 sections-placed : (names : List (List ℕ)) (round : ℕ) (rows : Rows) (ss : List Section) → fold after_section rows ss ≡ after_writes rows (writes_placed (sections_writes names round ss))
 sections-placed names round rows [] = refl

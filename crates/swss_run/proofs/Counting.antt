@@ -1,5 +1,5 @@
 -- faults and restarts, counted by marks
-use Rattle.std.proofs.Common.{◌≡◌, ◌⊎◌, inl, inr, ℕ, ◌+◌, ◌-◌, ◌≤◌, true, List, [], ◌∷◌, ◌++◌, Option, Some, None, refl, sym, ap, ◌∙◌, subst, arith}
+use Rattle.std.proofs.Common.{◌≡◌, ◌⊎◌, inl, inr, ℕ, ◌+◌, ◌-◌, ◌≤◌, Bool, true, List, [], ◌∷◌, ◌++◌, Option, Some, None, refl, sym, ap, ◌∙◌, subst, arith}
 use Rattle.std.proofs.lemmas.List.{append_assoc, append-nil}
 use Rattle.std.proofs.lemmas.Option.{same_Some}
 use Rattle.switch_model.specs.Sound.{is_fault, is_suspect}
@@ -150,12 +150,17 @@ restart-next o [] m rest bad order = cc
 restart-next o (x ∷ []) m rest bad order = follows-fault x.event m.event bad order.1.0
 restart-next o (x ∷ y ∷ xs) m rest bad order = restart-next (Some x.event) (y ∷ xs) m rest bad order.1
 
-one-more : (xs ms : List Mark) (n : ℕ) → is_suspect xs ≡ true → AreMarksInOrder None (xs ++ ms) → restarts_marked ms ≡ n + 1 → RestartsAfterFault (is_suspect xs) ms
+pub one-more : (xs ms : List Mark) (n : ℕ) → is_suspect xs ≡ true → AreMarksInOrder None (xs ++ ms) → restarts_marked ms ≡ n + 1 → RestartsAfterFault (is_suspect xs) ms
 one-more xs [] n bad order count = absurd (none (sym count))
   where
     none : n + 1 ≡ 0 → ⊥
     none h = omega (arith, h)
 one-more xs (m ∷ rest) n bad order count = inl (bad, restart-next None xs m rest bad order)
+
+-- so there is one among more marks, where the round began behind fewer
+pub more-behind : (fault : Bool) (xs ms added : List Mark) → is_suspect xs ≡ fault → RestartsAfterFault (is_suspect (xs ++ ms)) added → RestartsAfterFault fault (ms ++ added)
+more-behind fault xs [] added is h = subst (λ b. RestartsAfterFault b added) (ap is_suspect (append-nil xs) ∙ is) h
+more-behind fault xs (m ∷ ms) added is h = inr (more-behind (is_fault m.event) (xs ++ m ∷ []) ms added (suspect-last xs m) (subst (λ l. RestartsAfterFault (is_suspect l) added) (sym (append_assoc xs (m ∷ []) ms)) h))
 
 -- how often a round restarted so far that began behind these marks: as its sections say, and once more where it began behind a fault and they had restarted before that; a restart may be due yet
 pub record HasRestarted (round : Round) (xs ms : List Mark) (w : Warm) : Type 0 where
@@ -164,7 +169,7 @@ pub record HasRestarted (round : Round) (xs ms : List Mark) (w : Warm) : Type 0 
   pub behind : (more ≡ 0) ⊎ ((more ≡ 1) × (is_suspect xs ≡ true))
   pub least : restarts_in round.sections ≤ restarts_marked ms
 
-no_restart : (e : MarkEvent) → MayEndRound e → restarts_at e ≡ 0
+pub no_restart : (e : MarkEvent) → MayEndRound e → restarts_at e ≡ 0
 no_restart (event.Settled waits turns) h = refl
 no_restart (event.Faulted before after) h = refl
 no_restart event.Restarted h = absurd h
@@ -187,7 +192,15 @@ restarts-ended round xs ms w mark h none may order = by h.behind
         let all : restarts_marked (ms ++ mark ∷ []) ≡ restarts_in round.sections + 1 = omega (arith, count, one) in
         inr (all, one-more xs (ms ++ mark ∷ []) (restarts_in round.sections) bad order all)
 
-due-or : (w : Warm) → (restarts_due w ≡ 0) ⊎ (restarts_due w ≡ 1)
+-- a restart is due of a suspect core alone
+pub due-suspect : (w : Warm) → restarts_due w ≡ 1 → w ≡ warm.Suspect
+due-suspect warm.Suspect is = refl
+due-suspect warm.Initialized is = cc
+due-suspect warm.Restored is = cc
+due-suspect warm.Applying is = cc
+due-suspect warm.Reconciled is = cc
+
+pub due-or : (w : Warm) → (restarts_due w ≡ 0) ⊎ (restarts_due w ≡ 1)
 due-or warm.Suspect = inr refl
 due-or warm.Initialized = inl refl
 due-or warm.Restored = inl refl

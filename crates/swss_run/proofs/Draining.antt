@@ -1,5 +1,6 @@
 -- behind a restart a settling leaves no key, where the good rows are closed and there is room for their things
 use Rattle.std.proofs.Common.{◌≡◌, inl, inr, ℕ, ◌<◌, ◌≤◌, Bool, true, false, List, [], ◌∷◌, ◌++◌, length, Option, Some, None, sym, ap, ◌∙◌, subst, arith, if◌then◌else◌}
+use Rattle.std.proofs.lemmas.Option.{same_Some}
 use Rattle.std.specs.BTreeMap.{is_at}
 use Rattle.table_schema.specs.Key.{key_cmp}
 use Rattle.table_schema.specs.Plan.{Ports}
@@ -15,13 +16,15 @@ use Rattle.sai_types.specs.declared.thing.Thing.{Thing}
 use Rattle.switch_model.specs.Desired.{IsClosed, IsThingOf}
 use Rattle.switch_model.specs.Good.{TypedRows, good_rows}
 use Rattle.switch_model.specs.History.{History}
-use Rattle.switch_model.specs.Marks.{ListsNoRow, Waiting, applied_rows, sent_writes}
+use Rattle.switch_model.specs.Marks.{IsMoved, ListsNoRow, Waiting, applied_rows, sent_writes}
+use Rattle.switch_model.specs.Placed.{bare_rows}
 use Rattle.switch_model.specs.Promises.{AreTrueMarks, IsTrueMark, good_rows_at}
-use Rattle.switch_model.specs.Room.{HasRoomForView, IsRoundThing}
+use Rattle.switch_model.specs.Room.{HasRoomForView, IsRoundStill, IsRoundThing}
 use Rattle.switch_model.specs.declared.mark.Mark.{Mark}
 use Rattle.switch_model.specs.declared.mark.MarkEvent.{MarkEvent}
 use Rattle.switch_model.specs.declared.mark.MarkEvent.TheVariants as event
 use Rattle.switch_machine.specs.Events.{SwitchState, after_answers}
+use Rattle.switch_machine.proofs.Placing.{moved_not}
 use Rattle.flight_board.specs.Applied.{row_at}
 use Rattle.flight_board.specs.Board.{flown_at}
 use Rattle.restart_laws.specs.Logged.{last_mark}
@@ -88,9 +91,9 @@ module _ (c new : CoreState) (chip chip' : ChipState) (x : InSession 1 c chip) (
   abbrev good : TypedRows
   good = good_rows c.board.plan (rows_of (sent_writes c.log.taken))
 
-  applied_good : (k : Key) (row : Row) → (after_answers core y.answers).machine.board.applied k ≡ Some row → good_rows_at c.board.plan c.log.taken (length c.log.taken) k ≡ Some row
+  applied_good : (k : Key) (row : Row) → bare_rows (after_answers core y.answers).machine.board.applied k ≡ Some row → good_rows_at c.board.plan c.log.taken (length c.log.taken) k ≡ Some row
   applied_good k row there =
-      rows k row (sym ((x.stands.working at).1.rows k) ∙ ap (λ answers. (after_answers core answers).machine.board.applied k) (sym none_left) ∙ there)
+      rows k row (sym ((x.stands.working at).1.rows k) ∙ ap (λ answers. bare_rows (after_answers core answers).machine.board.applied k) (sym none_left) ∙ there)
 
   abbrev none_before : TypedRows
   none_before k = None
@@ -105,7 +108,20 @@ module _ (c new : CoreState) (chip chip' : ChipState) (x : InSession 1 c chip) (
       let same : n ≡ length c.log.taken = omega (arith, least, most) in
       subst (λ g. IsThingOf c.board.plan g t) (all-good c.board.plan c.log.taken) (subst (λ m. IsThingOf c.board.plan (good_rows_at c.board.plan c.log.taken m) t) same h)
 
+  -- no interface moves, since none was applied before, and the good rows are those of all writes
+  still : IsRoundStill c.board.plan none_before c.log.taken (length c.log.taken) (length c.log.taken)
+  still = (
+    λ q p r old new at named there is moves. apart_none old there,
+    λ n least most q p r old new at named there is moves.
+        let same : n ≡ length c.log.taken = omega (arith, least, most) in
+        let one : old ≡ new = same_Some old new (sym there ∙ ap (λ m. good_rows_at c.board.plan c.log.taken m q) same ∙ is) in
+        moved_not q new (subst (λ z. IsMoved q z new) one moves),
+  )
+    where
+      apart_none : (row : Row) → None ≡ Some row → ⊥
+      apart_none row e = cc
+
   pub drains-behind : IsClosed good → HasRoomForView c.sync.capacities (IsThingOf c.board.plan good) → (y.settling.waits ≡ []) × (y.settling.turns ≤ 4)
   drains-behind closed room =
-      settling-drains c new chip chip' x y at none_before (length c.log.taken) (length c.log.taken) (λ k row there. inr (length c.log.taken, omega arith, omega arith, applied_good k row there)) closed (omega arith) (omega arith)
+      settling-drains c new chip chip' x y at none_before (length c.log.taken) (length c.log.taken) (λ k row there. inr (length c.log.taken, omega arith, omega arith, applied_good k row there)) closed (omega arith) (omega arith) still
       (λ kind keys h. room kind keys (record { distinct = h.distinct; things = λ k i. let z = h.things k i in (z.0, z.1, z.2, good_thing z.0 z.3) }))

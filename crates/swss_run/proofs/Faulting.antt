@@ -17,7 +17,7 @@ use Rattle.swss_run.specs.Faults.{places_beside}
 use Rattle.swss_run.proofs.Counting.{beside-list, beside-one, restart-last, rise-mark}
 
 -- the size that a core counts is that of its log
-pub sized-at : (c : CoreState) (chip : ChipState) → InSession 1 c chip → (n : ℕ) → size_beside c n ≡ log_size c.log n
+pub sized-at : {workers : ℕ} (c : CoreState) (chip : ChipState) → InSession workers c chip → (n : ℕ) → size_beside c n ≡ log_size c.log n
 sized-at c chip within n = ap (λ k. size_listing k c.log n) within.stands.always.listed
 
 -- what a failed call leaves
@@ -31,7 +31,7 @@ pub record LeavesFault (mid new : CoreState) (chip' : ChipState) : Type 0 where
   pub beside : places_beside new.log.marks + 1 ≤ need
   pub limit : new.limit ≡ mid.limit
 
-module _ (mid new : CoreState) (chip chip' : ChipState) (is : InSession 1 mid chip) (e : LeavesFault mid new chip') where
+module _ {workers : ℕ} (mid new : CoreState) (chip chip' : ChipState) (is : InSession workers mid chip) (e : LeavesFault mid new chip') where
   abbrev pub fault_mark : Mark
   fault_mark = mark_at mid (length chip'.effects) (event.Faulted e.before chip'.faults)
 
@@ -71,7 +71,7 @@ pub beside-two : (marks : List Mark) → places_beside marks + 1 ≤ 2
 beside-two marks = let one = beside-one marks in omega (arith, one)
 
 -- and what fails on the way back needs so many
-pub beside-way : (mid : CoreState) (chip : ChipState) → InSession 1 mid chip → (fault : Mark) → places_beside (mid.log.marks ++ fault ∷ []) + 1 ≤ places_on_way mid.warm
+pub beside-way : {workers : ℕ} (mid : CoreState) (chip : ChipState) → InSession workers mid chip → (fault : Mark) → places_beside (mid.log.marks ++ fault ∷ []) + 1 ≤ places_on_way mid.warm
 beside-way mid chip is fault = by mid.warm refl
   where
     two : (w : Warm) → mid.warm ≡ w → places_on_way w ≡ 2 → places_beside (mid.log.marks ++ fault ∷ []) + 1 ≤ places_on_way mid.warm

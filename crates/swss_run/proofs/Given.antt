@@ -14,7 +14,7 @@ use Rattle.machine_laws.proofs.Switched.{switched-key_of}
 use Rattle.table_schema.specs.Writes.{HasReadKey}
 use Rattle.swss_script.specs.Behind.{row_act, rounds_behind}
 use Rattle.swss_script.specs.Script.{script_of}
-use Rattle.swss_script.specs.Sections.{Placed, acts_of, acts_writes, producer_name, rounds_writes, sections_writes}
+use Rattle.swss_script.specs.Sections.{PlacedWrite, acts_of, acts_writes, producer_name, rounds_writes, sections_writes}
 use Rattle.swss_script.specs.Sent.{next_sent, sent_after, sent_in_round, writes_in}
 use Rattle.swss_script.specs.Stage.{AreImageRows}
 use Rattle.swss_script.specs.declared.parts.Act.{Act}
@@ -27,14 +27,14 @@ use Rattle.swss_service.specs.Taking.{HaveReadKeys}
 
 -- ---- in each round
 
-abbrev AreRead : List Placed → Type 0
-AreRead writes = AllByRecursion (λ (p : Placed). HasReadKey p.write) writes
+abbrev AreRead : List PlacedWrite → Type 0
+AreRead writes = AllByRecursion (λ (p : PlacedWrite). HasReadKey p.write) writes
 
-read-front : (xs ys : List Placed) → AreRead (xs ++ ys) → AreRead xs
+read-front : (xs ys : List PlacedWrite) → AreRead (xs ++ ys) → AreRead xs
 read-front [] ys h = tt
 read-front (x ∷ xs) ys h = (h.0, read-front xs ys h.1)
 
-read-back : (xs ys : List Placed) → AreRead (xs ++ ys) → AreRead ys
+read-back : (xs ys : List PlacedWrite) → AreRead (xs ++ ys) → AreRead ys
 read-back [] ys h = h
 read-back (x ∷ xs) ys h = read-back xs ys h.1
 

@@ -30,7 +30,7 @@ pub same-trans : (a b c : CoreState) → KeepsPlan a b → KeepsPlan b c → Kee
 same-trans a b c first next = record { plan = next.plan ∙ first.plan; capacities = next.capacities ∙ first.capacities; limit = next.limit ∙ first.limit }
 
 -- a log by its three lists
-log-as : (h : History) (taken : List Sent) (marks : List Mark) (ends : List ℕ) → h.taken ≡ taken → h.marks ≡ marks → h.ends ≡ ends → h ≡ record { taken = taken; marks = marks; ends = ends }
+pub log-as : (h : History) (taken : List Sent) (marks : List Mark) (ends : List ℕ) → h.taken ≡ taken → h.marks ≡ marks → h.ends ≡ ends → h ≡ record { taken = taken; marks = marks; ends = ends }
 log-as h taken marks ends ts ms es =
     ap (λ l. record { taken = l; marks = h.marks; ends = h.ends }) ts ∙ ap (λ l. record { taken = taken; marks = l; ends = h.ends }) ms ∙ ap (λ l. record { taken = taken; marks = marks; ends = l }) es
 

@@ -87,7 +87,7 @@ settled-fails mid chip s (Ok settled.LogFull) new chip' (inr e) = e.keeps.fails
 settled-fails mid chip s (Err wanting) new chip' e = e.keeps.fails
 
 -- the chip has the failing calls that it was made with
-from-fails : (mid : CoreState) (chip : ChipState) (s : LoggedService) (r : Result Settled OutOfMemory) (new : CoreState) (chip' : ChipState) → SettlesFrom s mid chip r new chip' → chip'.fails ≡ chip.fails
+pub from-fails : (mid : CoreState) (chip : ChipState) (s : LoggedService) (r : Result Settled OutOfMemory) (new : CoreState) (chip' : ChipState) → SettlesFrom s mid chip r new chip' → chip'.fails ≡ chip.fails
 from-fails mid chip s r new chip' (Back c cchip x h) = settled-fails c cchip x.later r new chip' h ∙ x.comes.keeps.fails
 from-fails mid chip s (Ok settled.Settled) new chip' (Stopped h) = absurd h
 from-fails mid chip s (Ok settled.Faulted) new chip' (Stopped h) = h.stops.1.fails ∙ h.comes.keeps.fails
@@ -97,7 +97,7 @@ from-fails mid chip s (Err wanting) new chip' (Stopped h) = fails_asked h.stops.
 -- ---- the lines
 
 -- what stands at the end of a round, said in other words
-text-as : (shows : List Show) (lines : List ℕ) (p p' : Ports) (n n' : ℕ) (ms ms' : List Mark) (t t' : ℕ) (r r' : Rows) (c c' : List ℕ) (o o' : Objects) (e e' : List (Call Rid)) (b b' : ℕ)
+pub text-as : (shows : List Show) (lines : List ℕ) (p p' : Ports) (n n' : ℕ) (ms ms' : List Mark) (t t' : ℕ) (r r' : Rows) (c c' : List ℕ) (o o' : Objects) (e e' : List (Call Rid)) (b b' : ℕ)
     → p ≡ p' → n ≡ n' → ms ≡ ms' → t ≡ t' → r ≡ r' → c ≡ c' → o ≡ o' → e ≡ e' → b ≡ b'
     → IsRoundText (record { plan = p; number = n; marks = ms; taken = t; rows = r; capacities = c; objects = o; effects = e }) b shows lines
     → IsRoundText (record { plan = p'; number = n'; marks = ms'; taken = t'; rows = r'; capacities = c'; objects = o'; effects = e' }) b' shows lines

@@ -36,7 +36,8 @@ use Rattle.swss_run.specs.Output.{TakesFront, TakesPart}
 use Rattle.swss_run.specs.Restarts.{AreRestarted, HasFewRestarts, HasRestarts}
 use Rattle.swss_run.specs.Rounds.{AreEndsRising, AreFenced, AreTaken, EndsAtMark, IsCutInRounds, IsReport, Ran, all_calls, all_marks, all_sent, ends_from, nothing_ran, round_end}
 use Rattle.swss_run.specs.Running.{EndsRound, HasLines, IsRunReady, IsRoundRun, KeepsPlan, StopsInTurns, StopsRound}
-use Rattle.swss_run.specs.Session.{HasEnded, IsReported, IsSession, TookFront, TookPart, TookReport, log_limit}
+use Rattle.swss_run.specs.Report.{TookFront, TookPart, TookReport}
+use Rattle.swss_run.specs.Session.{HasEnded, IsReported, IsRunRecorded, IsSession, log_limit}
 use Rattle.swss_run.specs.Turned.{AreDrained, AreTurned, DrainsBehind, IsRoundTurned, IsSinceTurned}
 use Rattle.swss_run.specs.declared.status.Status.{Status}
 use Rattle.swss_run.specs.declared.status.Status.TheVariants as status
@@ -62,14 +63,14 @@ take-seam n xs lines =
     ∙ ap (λ l. xs ++ take n l) (drop-append_seam xs lines)
 
 -- a text and a front of the next are a front of both, and not all where that is not all
-front-more : (a b c : Option (List ℕ)) (text lines : List ℕ) → Takes a text b → TakesFront b lines c → TakesFront a (text ++ lines) c
+pub front-more : (a b c : Option (List ℕ)) (text lines : List ℕ) → Takes a text b → TakesFront b lines c → TakesFront a (text ++ lines) c
 front-more a b c text lines took (n, few, next) = (
   length text + n,
   omega (arith, few, length-append text lines),
   subst (λ t. Takes a t c) (sym (take-seam n text lines)) (Takes-trans a b c text (take n lines) took next),
 )
 
-part-more : (a b c : Option (List ℕ)) (text lines : List ℕ) → Takes a text b → TakesPart b lines c → TakesPart a (text ++ lines) c
+pub part-more : (a b c : Option (List ℕ)) (text lines : List ℕ) → Takes a text b → TakesPart b lines c → TakesPart a (text ++ lines) c
 part-more a b c text lines took (n, few, next) = (
   length text + n,
   omega (arith, few, length-append text lines),
@@ -145,7 +146,7 @@ none_taken : (rounds : List Round) → AreTaken [] rounds []
 none_taken [] = refl
 none_taken (r ∷ rounds) = (sent_in_round r, refl)
 
-Takes-none : (held : Option (List ℕ)) → Takes held [] held
+pub Takes-none : (held : Option (List ℕ)) → Takes held [] held
 Takes-none None = refl
 Takes-none (Some text) = ap Some (sym (append-nil text))
 
@@ -191,31 +192,44 @@ running-none rounds first sim held replay new chip plan follows at = record {
 pub ended-none : (first : CoreState) (sim : ChipState) → first ≡ new_core first.board.plan first.sync.capacities log_limit → IsEndedAs status.Done first sim
 ended-none first sim new = inl (refl, ap (λ (s : CoreState). is_suspect s.log.marks) new)
 
+-- what is recorded of a core and a chip within a session of the service, by any number of workers
+module _ {workers : ℕ} (first core : CoreState) (chip : ChipState) (within : InSession workers core chip) (same : KeepsPlan first core) (places : log_size core.log (length chip.effects) ≤ log_limit) (faults : FaultsRise 0 core.log.marks chip.faults) (rise : AreEndsRising 0 core.log.ends) where
+  pub as_first : (P : Ports → List ℕ → Type 0) → P core.board.plan core.sync.capacities → P first.board.plan first.sync.capacities
+  as_first P h = subst (λ p. P p first.sync.capacities) same.plan (subst (P core.board.plan) same.capacities h)
+
+  pub followed : AreFollowed first.board.plan first.sync.capacities core.log.taken chip.effects core.log.marks
+  followed = as_first (λ p c. AreFollowed p c core.log.taken chip.effects core.log.marks) (applies-followed core chip within)
+
+  abbrev pub run-recorded : IsRunRecorded workers first.board.plan first.sync.capacities core.log chip
+  run-recorded = record {
+    run = within.session;
+    recorded = as_first (λ p c. HasRecorded workers p c core.log chip.effects within.session) (session-recorded core chip within);
+    room = within.stands.always.capacities ∙ same.capacities;
+    clean = within.stands.always.clean;
+    objects = objects-left core chip within;
+    legality = as_first (λ p c. EffectsAreLegal p c core.log.taken chip.effects) (effects-legal core chip within);
+    few = outside-few-of core chip within;
+    all_few = all-few core chip within;
+    marks = as_first (λ p c. MarksAreTrue p c core.log chip.effects) (marks-true core chip within);
+    counts = counts-within core chip within;
+    order = log-ordered core chip within;
+    places = places;
+    applies = followed;
+    breaks = steady-breaks first.board.plan first.sync.capacities core.log.taken chip.effects core.log.marks followed;
+    faults = faults;
+    rise = rise;
+  }
+
 -- a session, from a core and a chip within one of the service
 session-from : (rounds : List Round) (ended : Status) (first core : CoreState) (chip : ChipState) (held held' : Option (List ℕ)) (rans : List Ran) (since : Ran)
     → (within : InSession 1 core chip) → KeepsPlan first core → log_size core.log (length chip.effects) ≤ log_limit → FaultsRise 0 core.log.marks chip.faults → IsCutInRounds core.log chip.effects rans since → AreTaken rans rounds since.sent → AreRestarted false rans rounds since.marks → AreTurned first.board.plan first.sync.capacities None [] [] rans → IsSinceTurned first.board.plan first.sync.capacities (last_mark None (all_marks rans)) (all_sent rans) (all_calls rans) since → AreDrained first.board.plan first.sync.capacities [] rans
     → IsReported ended first.board.plan first.sync.capacities rounds rans since core.log chip within.session held held'
     → IsSession first.board.plan first.sync.capacities rounds ended core.log chip held held'
 session-from rounds ended first core chip held held' rans since within same places faults cut writes restarts turned since_turned drained reported = record {
-  run = within.session;
-  recorded = as_first (λ p c. HasRecorded 1 p c core.log chip.effects within.session) (session-recorded core chip within);
-  room = within.stands.always.capacities ∙ same.capacities;
-  clean = within.stands.always.clean;
-  objects = objects-left core chip within;
-  legality = as_first (λ p c. EffectsAreLegal p c core.log.taken chip.effects) (effects-legal core chip within);
-  few = outside-few-of core chip within;
-  all_few = all-few core chip within;
-  marks = as_first (λ p c. MarksAreTrue p c core.log chip.effects) (marks-true core chip within);
-  counts = counts-within core chip within;
-  order = log-ordered core chip within;
-  places = places;
-  applies = followed;
-  breaks = steady-breaks first.board.plan first.sync.capacities core.log.taken chip.effects core.log.marks followed;
-  faults = faults;
+  recorded = run-recorded first core chip within same places faults (subst (AreEndsRising 0) (sym cut.ends) (ends-rise 0 0 0 rans cut.at_marks));
   rans = rans;
   since = since;
   cut = cut;
-  rise = subst (AreEndsRising 0) (sym cut.ends) (ends-rise 0 0 0 rans cut.at_marks);
   writes = writes;
   restarts = restarts;
   turned = turned;
@@ -223,12 +237,6 @@ session-from rounds ended first core chip held held' rans since within same plac
   drained = drained;
   reported = reported;
 }
-  where
-    as_first : (P : Ports → List ℕ → Type 0) → P core.board.plan core.sync.capacities → P first.board.plan first.sync.capacities
-    as_first P h = subst (λ p. P p first.sync.capacities) same.plan (subst (P core.board.plan) same.capacities h)
-
-    followed : AreFollowed first.board.plan first.sync.capacities core.log.taken chip.effects core.log.marks
-    followed = as_first (λ p c. AreFollowed p c core.log.taken chip.effects core.log.marks) (applies-followed core chip within)
 
 module _ (rounds done : List Round) (first : CoreState) (held0 : Option (List ℕ)) (core : CoreState) (sim : ChipState) (replay : Replayed) (held : Option (List ℕ)) (running : IsRunning rounds done first held0 core sim replay held) where
   -- every round ended

@@ -1,9 +1,8 @@
 -- What a session comes to: the writes taken, the marks, the chip and the report. Own.
-use Rattle.std.specs.Prelude.{◌≡◌, ◌⊎◌, ℕ, ◌+◌, ◌*◌, ◌<◌, ◌≤◌, true, false, List, [], ◌++◌, length, map, slice_get, Option, Some, None}
-use Rattle.swss_types.specs.Outside.{Takes}
+use Rattle.std.specs.Prelude.{◌≡◌, ℕ, ◌+◌, ◌*◌, ◌<◌, ◌≤◌, true, false, List, [], ◌++◌, length, slice_get, Option, Some, None}
 use Rattle.table_schema.specs.Plan.{Ports}
 use Rattle.sai_types.specs.ChipState.{ChipState}
-use Rattle.switch_model.specs.History.{History, log_size, no_history}
+use Rattle.switch_model.specs.History.{History, log_size}
 use Rattle.switch_model.specs.Promises.{EffectsAreLegal, MarksAreTrue}
 use Rattle.switch_model.specs.Sound.{AreWithin, is_suspect}
 use Rattle.machine_laws.specs.Bounds.{most_calls}
@@ -14,20 +13,15 @@ use Rattle.restart_laws.specs.Logged.{LoggedService, last_mark}
 use Rattle.round_laws.specs.Awaited.{HasRecorded}
 use Rattle.round_laws.specs.Named.{keys_named}
 use Rattle.round_laws.specs.Sessions.{BeginNoApply}
-use Rattle.swss_script.specs.Behind.{rounds_behind}
 use Rattle.swss_script.specs.declared.parts.Round.{Round}
-use Rattle.swss_script.specs.declared.script.Script.{Script}
 use Rattle.restart_laws.specs.BrokenOff.{AreSteadyOverBreaks}
 use Rattle.swss_service.specs.Faults.{FaultsRise}
 use Rattle.swss_run.specs.Faults.{places_beside}
 use Rattle.swss_run.specs.Full.{IsFull}
-use Rattle.swss_run.specs.Output.{TakesFront, TakesPart}
-use Rattle.swss_run.specs.Read.{WasRead}
-use Rattle.swss_run.specs.Run.{HasNoSession, chip_fail}
+use Rattle.swss_run.specs.Report.{TookFront, TookPart, TookReport}
 use Rattle.swss_run.specs.Restarts.{AreRestarted}
-use Rattle.swss_run.specs.Rounds.{AreTaken, IsCutInRounds, IsReport, Ran, AreEndsRising, all_calls, all_marks, all_sent, nothing_ran}
+use Rattle.swss_run.specs.Rounds.{AreTaken, IsCutInRounds, Ran, AreEndsRising, all_calls, all_marks, all_sent, nothing_ran}
 use Rattle.swss_run.specs.Turned.{AreDrained, AreTurned, IsSinceTurned}
-use Rattle.swss_run.specs.declared.outcome.Outcome.{Outcome}
 use Rattle.swss_run.specs.declared.run.TheConstants.{LOG_LIMIT}
 use Rattle.swss_run.specs.declared.status.Status.{Status}
 use Rattle.swss_run.specs.declared.status.Status.TheVariants as status
@@ -36,24 +30,6 @@ use Rattle.sai_types.specs.After.{chip_after}
 -- how many places the log has
 abbrev pub log_limit : ℕ
 log_limit = LOG_LIMIT
-
--- the sink took the whole report of these rounds
-pub record TookReport (plan : Ports) (capacities : List ℕ) (rans : List Ran) (rounds : List Round) (held held' : Option (List ℕ)) : Type 0 where
-  pub text : List ℕ
-  pub report : IsReport plan capacities rans rounds text
-  pub took : Takes held text held'
-
--- the sink took a front of the report of these rounds
-pub record TookFront (plan : Ports) (capacities : List ℕ) (rans : List Ran) (rounds : List Round) (held held' : Option (List ℕ)) : Type 0 where
-  pub text : List ℕ
-  pub report : IsReport plan capacities rans rounds text
-  pub took : TakesFront held text held'
-
--- the sink took a front of the report of these rounds, and not all of it
-pub record TookPart (plan : Ports) (capacities : List ℕ) (rans : List Ran) (rounds : List Round) (held held' : Option (List ℕ)) : Type 0 where
-  pub text : List ℕ
-  pub report : IsReport plan capacities rans rounds text
-  pub took : TakesPart held text held'
 
 -- the log of the run is full: an event of the round that did not end needs more places than are left; and so the places, 2 more and one for each key that was written are more than the log has
 pub record HasNoPlace (plan : Ports) (capacities : List ℕ) (rounds : List Round) (rans : List Ran) (since : Ran) (log : History) (chip : ChipState) (run : LoggedService) : Type 0 where
@@ -81,10 +57,10 @@ IsReported status.OutOfMemory plan capacities rounds rans since log chip run hel
     (told : List Ran) × (untold : List Ran) × (rans ≡ told ++ untold) × TookFront plan capacities told rounds held held'
 IsReported _ plan capacities rounds rans since log chip run held held' = ⊥
 
--- a session over rounds: the log and the effects are the record of one run of the service's machine, by at most as many workers as the run has, which is one, from its beginning over an empty chip. Of all that was made: every chip call was legal; outside applies at most so many took effect as an operation makes for each write taken and each key listed where an apply began, and where none began, for each write; every mark is true, counts no fewer writes and calls than the mark before it and no more than there are, and stands where it may; each event found its places in the log; of each apply, what holds while it is made, and of applies that are broken off one after the other, what holds over them all; and each fault of the chip has its mark. Of the rounds: the writes taken are theirs in order and each once, the ends of rounds rise, they restarted as often as their sections say, or once more behind a fault; the calls of each round that ended with its settling are those of its turns, which leave quiet rows alone and drain where there is room: all of them, where it neither follows a fault nor restarted, and else those behind the end of its last apply; and where a fault cut it off there, or it did not end, they are those of its turns so far. And the sink took what the status says of the report
-pub record IsSession (plan : Ports) (capacities : List ℕ) (rounds : List Round) (ended : Status) (log : History) (chip : ChipState) (held held' : Option (List ℕ)) : Type 0 where
+-- for any number of workers: the log and the effects are the record of one run of the service's machine, by at most so many workers, from its beginning over an empty chip. Of all that was made: every chip call was legal; outside applies at most so many took effect as an operation makes for each write taken and each key listed where an apply began, and where none began, for each write; every mark is true, counts no fewer writes and calls than the mark before it and no more than there are, and stands where it may; each event found its places in the log; of each apply, what holds while it is made, and of applies that are broken off one after the other, what holds over them all; each fault of the chip has its mark; and the ends of rounds rise
+pub record IsRunRecorded (workers : ℕ) (plan : Ports) (capacities : List ℕ) (log : History) (chip : ChipState) : Type 0 where
   pub run : LoggedService
-  pub recorded : HasRecorded 1 plan capacities log chip.effects run
+  pub recorded : HasRecorded workers plan capacities log chip.effects run
   pub room : chip.capacities ≡ capacities
   pub clean : chip.clean ≡ true
   pub objects : chip.objects ≡ chip_after chip.effects (length chip.effects)
@@ -98,41 +74,17 @@ pub record IsSession (plan : Ports) (capacities : List ℕ) (rounds : List Round
   pub applies : AreFollowed plan capacities log.taken chip.effects log.marks
   pub breaks : AreSteadyOverBreaks plan log.taken chip.effects log.marks
   pub faults : FaultsRise 0 log.marks chip.faults
+  pub rise : AreEndsRising 0 log.ends
+
+-- a session over rounds, by one worker. Of the rounds: the writes taken are theirs in order and each once, they restarted as often as their sections say, or once more behind a fault; the calls of each round that ended with its settling are those of its turns, which leave quiet rows alone and drain where there is room: all of them, where it neither follows a fault nor restarted, and else those behind the end of its last apply; and where a fault cut it off there, or it did not end, they are those of its turns so far. And the sink took what the status says of the report
+pub record IsSession (plan : Ports) (capacities : List ℕ) (rounds : List Round) (ended : Status) (log : History) (chip : ChipState) (held held' : Option (List ℕ)) : Type 0 where
+  pub recorded : IsRunRecorded 1 plan capacities log chip
   pub rans : List Ran
   pub since : Ran
   pub cut : IsCutInRounds log chip.effects rans since
-  pub rise : AreEndsRising 0 log.ends
   pub writes : AreTaken rans rounds since.sent
   pub restarts : AreRestarted false rans rounds since.marks
   pub turned : AreTurned plan capacities None [] [] rans
   pub since_turned : IsSinceTurned plan capacities (last_mark None (all_marks rans)) (all_sent rans) (all_calls rans) since
   pub drained : AreDrained plan capacities [] rans
-  pub reported : IsReported ended plan capacities rounds rans since log chip run held held'
-
--- a session of a script: its chip has the script's failing calls, and failed at no more calls than these are; and it is over the script's rounds behind its image: the first writes of the first are the rows of the image, from the sender 0 and in key order
-pub record IsScriptRun (script : Script) (ended : Status) (log : History) (chip : ChipState) (held held' : Option (List ℕ)) : Type 0 where
-  pub fails : chip.fails ≡ map chip_fail script.fails
-  pub faults : chip.faults ≤ length chip.fails
-  pub session : IsSession script.plan script.caps.0 (rounds_behind script.image script.rounds) ended log chip held held'
-
--- a run that got to its script: a session, or none where memory was refused before its chip stood
-abbrev pub IsRunBy : Script → Status → History → Option ChipState → Option (List ℕ) → Option (List ℕ) → Type 0
-IsRunBy script ended log None held held' = (ended ≡ status.OutOfMemory) × (log ≡ no_history) × (held' ≡ held)
-IsRunBy script ended log (Some sim) held held' = IsScriptRun script ended log sim held held'
-
-abbrev pub IsRun : Script → Outcome → Option (List ℕ) → Option (List ℕ) → Type 0
-IsRun script outcome held held' = IsRunBy script outcome.status outcome.log outcome.chip held held'
-
--- a run of the script that the source gave
-pub record RanScript (outcome : Outcome) (left left' held held' : Option (List ℕ)) : Type 0 where
-  pub script : Script
-  pub read : WasRead left script left'
-  pub run : IsRun script outcome held held'
-
--- what a run tells of its session: where the words, the script or the source ended it there was none; where memory was refused there was none, or one over the script that the source gave; else there was one
-abbrev pub TellsOfSession : Status → Outcome → Option (List ℕ) → Option (List ℕ) → Option (List ℕ) → Option (List ℕ) → Type 0
-TellsOfSession status.Usage outcome left left' held held' = HasNoSession outcome held held'
-TellsOfSession (status.ScriptRefused refusal) outcome left left' held held' = HasNoSession outcome held held'
-TellsOfSession status.ReadFault outcome left left' held held' = HasNoSession outcome held held'
-TellsOfSession status.OutOfMemory outcome left left' held held' = HasNoSession outcome held held' ⊎ RanScript outcome left left' held held'
-TellsOfSession _ outcome left left' held held' = RanScript outcome left left' held held'
+  pub reported : IsReported ended plan capacities rounds rans since log chip recorded.run held held'

@@ -21,7 +21,7 @@ use Rattle.round_laws.specs.Turns.{IsMadeByTurns, IsMadeSoFar}
 use Rattle.orch_core.specs.ComingBack.{restarts_marked}
 use Rattle.swss_run.specs.Rounds.{Ran}
 
--- a round is made by the turns that its mark counts; it leaves alone what stood for the rows of keys that it does not try; and it drains where its good rows are closed and there is room
+-- a round is made by the turns that its mark counts; it leaves alone what stood for the rows of keys that it does not try; and it drains where its good rows are closed, its interfaces stay in their routers and there is room
 pub record EndsTurned (plan : Ports) (capacities : List ℕ) (r : EndedRound) : Type 0 where
   pub made : IsMadeByTurns plan capacities r
   pub quiet : LeavesQuietRows plan r

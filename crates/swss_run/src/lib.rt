@@ -1,6 +1,7 @@
 //! The top call of the switch state service: from the words and the script's bytes to the report's bytes.
 #![tactic(auto)]
 
+mod beside;
 mod input;
 mod outcome;
 mod output;
@@ -12,7 +13,6 @@ mod standard;
 mod status;
 mod told;
 mod view;
-mod words;
 
 pub use outcome::Outcome;
 pub use run::swss_main;

@@ -1,4 +1,4 @@
-// A session: each round of a script is run through the service, and its lines are written.
+// A session with one worker: each round of a script is run through the service, and its lines are written.
 ghost use Rattle.std.specs.Prelude.{◌≡◌, ◌<◌, ◌≤◌, false};
 ghost use Rattle.std.specs.List.{AllByRecursion};
 ghost use Rattle.swss_types.specs.Outside.{HasRisen};
@@ -129,7 +129,7 @@ fn run_round<K: Sink>(
 }
 
 /// How a round that ended so ends, or the run.
-fn round_ended(end: RoundEnd) -> Result<Status, Status>
+pub(crate) fn round_ended(end: RoundEnd) -> Result<Status, Status>
     ensures { result ≡ round_ended end }
 {
     match end {

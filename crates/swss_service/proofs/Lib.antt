@@ -7,4 +7,5 @@ pub mod Parts
 pub mod Alike
 pub mod OneRound
 pub mod Scripts
+pub mod TakenAhead
 pub mod Beginning

@@ -7,6 +7,7 @@ use Rattle.swss_script.specs.Sections.{acts_of}
 use Rattle.swss_script.specs.Sent.{writes_in}
 use Rattle.swss_script.specs.declared.parts.Round.{Round}
 use Rattle.swss_script.specs.declared.parts.Section.{Section}
+use Rattle.swss_script.specs.declared.parts.Show.{Show}
 use Rattle.round_actors.specs.Round.{AreSectionsOf}
 use Rattle.swss_service.specs.Taking.{HaveReadKeys}
 
@@ -32,3 +33,10 @@ sections-at rounds items at found round sections same here is there =
     let both : Some found ≡ Some round = sym here ∙ ap (λ l. slice_get l at) same ∙ there in
     let alike : found ≡ round = cc in
     is ∙ ap (λ (r : Round). r.sections) alike
+
+-- and what it shows
+pub shows-at : (rounds items : List Round) (at : ℕ) (found round : Round) (shows : List Show) → items ≡ rounds → slice_get items at ≡ Some found → shows ≡ found.shows → slice_get rounds at ≡ Some round → shows ≡ round.shows
+shows-at rounds items at found round shows same here is there =
+    let both : Some found ≡ Some round = sym here ∙ ap (λ l. slice_get l at) same ∙ there in
+    let alike : found ≡ round = cc in
+    is ∙ ap (λ (r : Round). r.shows) alike

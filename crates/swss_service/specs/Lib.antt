@@ -3,6 +3,7 @@ pub mod Faults
 pub mod Going
 pub mod Served
 pub mod Rounds
+pub mod Ahead
 pub mod Made
 pub mod Taking
 pub mod Round

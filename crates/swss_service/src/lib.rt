@@ -1,6 +1,7 @@
 //! A round: the core and its chip under the lock that its actors share, and the settling behind them.
 #![tactic(auto)]
 
+mod ahead;
 mod alone;
 mod ending;
 mod locked;
@@ -12,6 +13,7 @@ mod served;
 mod taking;
 mod whole;
 
+pub use ahead::take_image;
 pub use ending::RoundEnd;
 pub use locked::Locked;
 pub use name::Named;

@@ -15,7 +15,7 @@ use std::alloc::Global;
 use std::marker::Model;
 use std::sync::Wait;
 use std::thread::Threads;
-use swss_script::{Producers, RoundList};
+use swss_script::{Producers, RoundList, Show};
 use swss_types::Gate;
 
 /// The rounds of a script that was accepted: its producers, 4 at most, may make the sections of each.
@@ -55,6 +55,14 @@ impl ScriptRounds {
         ensures { result ≡ length self.now }
     {
         self.rounds.items().len()
+    }
+
+    /// What one of them shows behind its settling.
+    pub fn shows(&self, at: usize) -> &[Show]
+        requires at { at < length self.now }
+        ensures { (round : Round) → slice_get self.now at ≡ Some round → result.now ≡ round.shows }
+    {
+        self.rounds.items()[at].shows.items()
     }
 
     /// Runs one of them, as `round` does.

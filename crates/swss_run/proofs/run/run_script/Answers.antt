@@ -1,4 +1,4 @@
-use Rattle.std.proofs.Common.{rules, ◌≡◌, List, sym, ap, subst}
+use Rattle.std.proofs.Common.{rules, ◌≡◌, List, sym, ap, subst, arith}
 use Rattle.session_laws.specs.Core.{CoreState}
 use Rattle.switch_model.specs.History.{History}
 use Rattle.swss_script.specs.Behind.{rounds_behind}
@@ -21,5 +21,6 @@ returns-clause-session g c =
     record {
       fails = search rules;
       faults = search rules;
-      session = subst (λ (l : History). IsSession c.args.script.plan c.args.script.caps.0 (rounds_behind c.args.script.image c.args.script.rounds) ran.status l ran.chip (g.K.Sink.holds c.args.sink.now) (g.K.Sink.holds c.run_rounds-core.new.sink)) (sym c.into_log.ensures) whole;
+      alone = λ one. subst (λ (l : History). IsSession c.args.script.plan c.args.script.caps.0 (rounds_behind c.args.script.image c.args.script.rounds) ran.status l ran.chip (g.K.Sink.holds c.args.sink.now) (g.K.Sink.holds c.run_rounds-core.new.sink)) (sym c.into_log.ensures) whole;
+      beside = λ many. absurd (omega (arith, many));
     }

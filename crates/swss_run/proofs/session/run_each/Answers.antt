@@ -1,15 +1,15 @@
-use Rattle.std.proofs.Common.{rules, ◌≡◌, ◌∙◌, inl, inr, ℕ, ◌+◌, ◌≤◌, List, [], ◌∷◌, ◌++◌, length, slice_get, Some, refl, sym, ap, subst, arith}
+use Rattle.std.proofs.Common.{rules, ◌≡◌, ◌∙◌, ◌+◌, List, [], ◌∷◌, ◌++◌, length, slice_get, Some, refl, sym, ap, subst, arith}
 use Rattle.std.proofs.Math.Seq.{get_or-append_seam}
 use Rattle.std.proofs.lemmas.List.{append_assoc, append-nil, length-append, nil_from_length}
 use Rattle.std.proofs.lemmas.Option.{slice_get-get_or}
 use Rattle.std.specs.List.{AllByRecursion}
-use Rattle.swss_types.specs.Outside.{HasRisen}
 use Rattle.sai_chip.specs.Replay.{Replayed}
 use Rattle.swss_script.specs.Sent.{writes_in}
 use Rattle.swss_script.specs.declared.parts.Round.{Round}
 use Rattle.swss_service.specs.Taking.{HaveReadKeys}
 use Rattle.swss_run.specs.Running.{IsRoundRun}
 use Rattle.swss_run.proofs.Over.{IsEndedAs}
+use Rattle.swss_run.proofs.Pieces.{HasRisen-later}
 use Rattle.swss_run.proofs.Sessions.{ended-none, replay-none, running-failed, running-more, running-none, session-done, session-ended}
 use Rattle.swss_run.proofs.session.run_each.Goals as goal
 
@@ -18,10 +18,6 @@ round-at done round rest rounds is =
     ap (λ l. slice_get l (length done)) is
     ∙ slice_get-get_or (done ++ round ∷ rest) (length done) round (omega (arith, length-append done (round ∷ rest)))
     ∙ ap Some (get_or-append_seam done round rest round)
-
-risen-since : (first then now : ℕ) → first ≤ then → HasRisen then now → HasRisen first now
-risen-since first then now le (inl more) = inl (omega (arith, le, more))
-risen-since first then now le (inr last) = inr last
 
 abbrev AreRead : List Round → Type 0
 AreRead rounds = AllByRecursion (λ (r : Round). HaveReadKeys (writes_in r.sections)) rounds
@@ -51,7 +47,7 @@ run_round-status-requires-clause-read g c =
 pub returns-in_default-clause-write_fault : goal.returns-in_default-clause-write_fault
 returns-in_default-clause-write_fault g c = λ is.
     let run = subst (λ s. IsRoundRun (c.loop-round.number + 1) c.in-Some.round c.loop-round.locked.core c.loop-round.locked.chip (g.K.Sink.holds c.loop-round.sink) (g.K.Sink.faults c.loop-round.sink) s c.run_round-status.new.locked.core c.run_round-status.new.locked.chip c.run_round-status.new.replay (g.K.Sink.holds c.run_round-status.new.sink) (g.K.Sink.faults c.run_round-status.new.sink)) is c.run_round-status.ensures.run in
-    risen-since (g.K.Sink.faults c.args.sink.now) (g.K.Sink.faults c.loop-round.sink) (g.K.Sink.faults c.run_round-status.new.sink) c.loop-round.invariant.4 run.5
+    HasRisen-later (g.K.Sink.faults c.args.sink.now) (g.K.Sink.faults c.loop-round.sink) (g.K.Sink.faults c.run_round-status.new.sink) c.loop-round.invariant.4 run.5
 
 pub returns-in_default-clause-session : goal.returns-in_default-clause-session
 returns-in_default-clause-session g c =
