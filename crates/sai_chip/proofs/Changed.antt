@@ -45,7 +45,7 @@ use Rattle.sai_chip.proofs.Parts.{lookup-past, lookup-last, remove-past, remove-
 pub neighbor_exact : CmpEqualImpliesEq neighbor_cmp
 neighbor_exact x y h = let made : Rid → Ip → Rid × Ip = λ r ip. (r, ip) in ap₂ made (rid_exact x.0 y.0 (then_first _ _ h)) (ip_exact x.1 y.1 (then_last _ _ h))
 
-vr_exact : CmpEqualImpliesEq (option_cmp rid_cmp)
+pub vr_exact : CmpEqualImpliesEq (option_cmp rid_cmp)
 vr_exact v w h = router-exact v w (routers-tied v w ∙ ap is_eq h)
 
 pub own_exact : CmpEqualImpliesEq own_cmp

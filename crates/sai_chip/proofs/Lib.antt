@@ -1,5 +1,7 @@
 mod Answered
 mod Appended
+mod BestKeys
+mod BestRoutes
 mod Changed
 mod Clashes
 mod Failed
@@ -7,7 +9,9 @@ mod GroupNames
 mod HopSets
 mod Indexed
 mod Kept
+mod Keyed
 mod LanesStay
+mod Leads
 mod Looked
 mod MarkRanges
 mod MemberCounts
@@ -18,6 +22,7 @@ mod Passing
 mod Recounted
 pub mod Remades
 pub mod Replays
+mod Routed
 mod Sending
 mod Standing
 mod Taken

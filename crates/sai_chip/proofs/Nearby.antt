@@ -11,7 +11,6 @@ use Rattle.std.proofs.lemmas.Map.Made.{is_some-lookup}
 use Rattle.std.proofs.lemmas.Bool.{false_from_ne_true}
 use Rattle.swss_types.specs.declared.address.Ip.{Ip}
 use Rattle.swss_types.specs.declared.address.Mac.{Mac}
-use Rattle.swss_types.specs.declared.address.Prefix.{Prefix}
 use Rattle.swss_types.specs.contracts.address.IpOrd.TheImpl.Laws as ordered_ip
 use Rattle.swss_types.proofs.Tied.{tied as equal_by}
 use Rattle.swss_types.proofs.Choices.{some_by}

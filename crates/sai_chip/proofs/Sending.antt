@@ -1,23 +1,20 @@
 -- where routes send, and which of them is the best
-use Rattle.std.proofs.Common.{◌≡◌, ℕ, ◌-◌, ◌<◌, ◌≤◌, nat_lt, Bool, true, false, cond, ◌&&◌, List, [], ◌∷◌, drop, get_or, length, map, Option, None, Some, option_map, Ordering, refl, sym, ap, ◌∙◌, if◌then◌else◌, arith}
+use Rattle.std.proofs.Common.{◌≡◌, ℕ, ◌-◌, ◌<◌, ◌≤◌, true, cond, ◌&&◌, List, [], ◌∷◌, drop, get_or, length, map, Option, None, Some, option_map, Ordering, refl, sym, ap, ◌∙◌}
 use Rattle.std.specs.declared.cmp.Ordering.TheVariants.{Less, Equal, Greater}
 use Rattle.std.specs.BTreeMap.{insert_entry, is_at}
 use Rattle.std.specs.List.Sorted.{IsStrictlySortedBy}
 use Rattle.std.specs.Map.{keys_of, lookup}
 use Rattle.std.specs.Option.{is_some, unwrap_or}
 use Rattle.std.specs.Ordering.{is_eq, match_ordering}
-use Rattle.std.proofs.lemmas.Bool.{and_parts, false≢true}
-use Rattle.std.proofs.lemmas.Grind.{common_steps}
+use Rattle.std.proofs.lemmas.Bool.{and_parts}
 use Rattle.std.proofs.lemmas.Map.{lookup-none}
 use Rattle.std.proofs.lemmas.Map.Entries.{none_below_head}
 use Rattle.std.proofs.lemmas.Map.Keys.{sorted_tail}
-use Rattle.swss_types.specs.Address.{covers}
 use Rattle.swss_types.specs.declared.address.Ip.{Ip}
 use Rattle.swss_types.specs.declared.address.Mac.{Mac}
 use Rattle.swss_types.specs.declared.address.Prefix.{Prefix}
 use Rattle.swss_types.specs.declared.vrf.Packet.{Packet}
 use Rattle.swss_types.specs.declared.vrf.Vrf.{Vrf}
-use Rattle.swss_types.specs.Vrf.{covers_in, same_vrf}
 use Rattle.sai_types.specs.declared.ids.Rid.{Rid}
 use Rattle.sai_types.specs.declared.hop.Base.{Base}
 use Rattle.sai_types.specs.declared.hop.Hop.{Hop}
@@ -29,7 +26,7 @@ use Rattle.sai_types.specs.declared.thing.Thing.TheVariants as thing
 use Rattle.sai_types.specs.declared.body.Body.TheVariants as body
 use Rattle.sai_types.specs.declared.body.Entry.TheVariants as entry
 use Rattle.sai_types.specs.declared.body.To.{To}
-use Rattle.sai_types.specs.Forwarding.{alone, best_route, decide_route, forwarding_of, hop_mac, longer}
+use Rattle.sai_types.specs.Forwarding.{alone, best_route, decide_route, forwarding_of, hop_mac}
 use Rattle.sai_types.specs.Hop.{heavier, hop_cmp, put_hop}
 use Rattle.sai_types.specs.Named.{both, goal_by, hops_at, named, router_at, thing_of, those, whop_at}
 use Rattle.sai_types.specs.Objects.{Objects, body_at}
@@ -40,9 +37,8 @@ use Rattle.chip_names.specs.Members.{hops_by}
 use Rattle.chip_names.proofs.SameNames.{drop-before}
 use Rattle.sai_chip.specs.declared.forward.Forward.{Forward}
 use Rattle.sai_chip.specs.declared.forward.Forward.TheVariants as forward
-use Rattle.sai_chip.specs.Bodies.{RouteKey, best_of, is_router, routed}
-use Rattle.sai_chip.specs.Forward.{answer_of, is_longer, more_ways, pick, sent, way_of, ways_by, ways_in, ways_of, weight_beside, with_goal}
-use Rattle.sai_chip.proofs.Passing.{and_none}
+use Rattle.sai_chip.specs.Bodies.{RouteKey, best_of, routed}
+use Rattle.sai_chip.specs.Forward.{answer_of, more_ways, sent, way_of, ways_by, ways_in, ways_of, weight_beside, with_goal}
 
 best_by : (objects : Objects) (a : Packet) (p : Prefix) (os : List (Option Thing)) (v : Option Vrf) (g : Option Goal) → best_route (those (both (λ v g. thing.Route v p g) v g ∷ os)) a ≡ with_goal a p v g (best_route (those os) a)
 best_by objects a p os None g = refl
@@ -52,79 +48,6 @@ best_by objects a p os (Some v) (Some g) = refl
 -- one more route in front
 pub best_of-cons : (objects : Objects) (a : Packet) (e : RouteKey × To Rid) (es : List (RouteKey × To Rid)) → best_of objects (e ∷ es) a ≡ with_goal a e.0.1 (router_at objects e.0.0) (goal_by (hops_at objects) objects e.1) (best_of objects es a)
 best_of-cons objects a e es = best_by objects a e.0.1 (map (thing_of objects) (routed es)) (router_at objects e.0.0) (goal_by (hops_at objects) objects e.1)
-
-uncovered_by : (a : Packet) (p : Prefix) (v : Option Vrf) (g : Option Goal) (r : Option (Prefix × Goal)) → covers p a.to ≡ false → with_goal a p v g r ≡ r
-uncovered_by a p None g r h = refl
-uncovered_by a p (Some v) None r h = refl
-uncovered_by a p (Some v) (Some g) r h = ap (λ (b : Bool). if b then longer p g r else r) (ap (λ b. same_vrf v a.vrf && b) h ∙ and_none (same_vrf v a.vrf))
-
--- a route that does not cover the address is passed over
-pub pick-uncovered : (objects : Objects) (a : Packet) (p : Prefix) (v : Option Vrf) (g : Option Goal) (best : Option (ℕ × Forward)) → covers p a.to ≡ false → (r : Option (Prefix × Goal)) → pick objects best r ≡ pick objects best (with_goal a p v g r)
-pick-uncovered objects a p v g best h r = ap (pick objects best) (sym (uncovered_by a p v g r h))
-
-elsewhere_by : (a : Packet) (p : Prefix) (v : Option Vrf) (g : Option Goal) (r : Option (Prefix × Goal)) → is_router a.vrf v ≡ false → with_goal a p v g r ≡ r
-elsewhere_by a p None g r h = refl
-elsewhere_by a p (Some v) None r h = refl
-elsewhere_by a p (Some v) (Some g) r h = ap (λ (b : Bool). if b && covers p a.to then longer p g r else r) h
-
--- and so is one in another router
-pub pick-elsewhere : (objects : Objects) (a : Packet) (p : Prefix) (v : Option Vrf) (g : Option Goal) (best : Option (ℕ × Forward)) → is_router a.vrf v ≡ false → (r : Option (Prefix × Goal)) → pick objects best r ≡ pick objects best (with_goal a p v g r)
-pick-elsewhere objects a p v g best h r = ap (pick objects best) (sym (elsewhere_by a p v g r h))
-
-without_by : (a : Packet) (p : Prefix) (v : Option Vrf) (r : Option (Prefix × Goal)) → with_goal a p v None r ≡ r
-without_by a p None r = refl
-without_by a p (Some v) r = refl
-
-pub pick-without : (objects : Objects) (a : Packet) (p : Prefix) (v : Option Vrf) (g : Option Goal) (best : Option (ℕ × Forward)) → None ≡ option_map (sent objects) g → (r : Option (Prefix × Goal)) → pick objects best r ≡ pick objects best (with_goal a p v g r)
-pick-without objects a p v None best h r = ap (pick objects best) (sym (without_by a p v r))
-pick-without objects a p v (Some g) best h r = absurd cc
-
-shorter_by : (objects : Objects) (n : ℕ) (f : Forward) (p : Prefix) (g : Goal) (r : Option (Prefix × Goal)) → nat_lt n p.len ≡ false → pick objects (Some (n, f)) r ≡ pick objects (Some (n, f)) (longer p g r)
-shorter_by objects n f p g None h = rw h refl
-shorter_by objects n f p g (Some b) h = grind (arith, common_steps)
-
-shorter_covered : (objects : Objects) (best : Option (ℕ × Forward)) (p : Prefix) (g : Goal) (r : Option (Prefix × Goal)) → is_longer p.len best ≡ false → pick objects best r ≡ pick objects best (longer p g r)
-shorter_covered objects None p g r h = absurd cc
-shorter_covered objects (Some best) p g r h = shorter_by objects best.0 best.1 p g r h
-
-shorter_or : (objects : Objects) (best : Option (ℕ × Forward)) (p : Prefix) (g : Goal) (c : Bool) (r : Option (Prefix × Goal)) → is_longer p.len best ≡ false → pick objects best r ≡ pick objects best (if c then longer p g r else r)
-shorter_or objects best p g true r h = shorter_covered objects best p g r h
-shorter_or objects best p g false r h = refl
-
--- and so is one whose prefix is no longer
-pub pick-shorter : (objects : Objects) (a : Packet) (p : Prefix) (v : Option Vrf) (g : Option Goal) (best : Option (ℕ × Forward)) → is_longer p.len best ≡ false → (r : Option (Prefix × Goal)) → pick objects best r ≡ pick objects best (with_goal a p v g r)
-pick-shorter objects a p None g best h r = refl
-pick-shorter objects a p (Some v) None best h r = refl
-pick-shorter objects a p (Some v) (Some g) best h r = shorter_or objects best p g (covers_in v p a) r h
-
-better_by : (objects : Objects) (n : ℕ) (f : Forward) (p : Prefix) (g : Goal) (r : Option (Prefix × Goal)) → nat_lt n p.len ≡ true → pick objects (Some (p.len, sent objects g)) r ≡ pick objects (Some (n, f)) (longer p g r)
-better_by objects n f p g None h = rw h refl
-better_by objects n f p g (Some b) h = grind (arith, common_steps)
-
-better_first : (objects : Objects) (p : Prefix) (g : Goal) (r : Option (Prefix × Goal)) → pick objects (Some (p.len, sent objects g)) r ≡ pick objects None (longer p g r)
-better_first objects p g None = refl
-better_first objects p g (Some b) = grind (arith, common_steps)
-
-better_covered : (objects : Objects) (best : Option (ℕ × Forward)) (p : Prefix) (g : Goal) (r : Option (Prefix × Goal)) → is_longer p.len best ≡ true → pick objects (Some (p.len, sent objects g)) r ≡ pick objects best (longer p g r)
-better_covered objects None p g r h = better_first objects p g r
-better_covered objects (Some best) p g r h = better_by objects best.0 best.1 p g r h
-
-covered_by : (a : Packet) (p : Prefix) (v : Vrf) (g : Goal) (r : Option (Prefix × Goal)) → covers p a.to ≡ true → same_vrf v a.vrf ≡ true → longer p g r ≡ with_goal a p (Some v) (Some g) r
-covered_by a p v g r c i = ap (λ (b : Bool). if b then longer p g r else r) (sym (ap (λ b. b && covers p a.to) i ∙ c))
-
--- one in the router that covers it and is longer is the better
-pub pick-better : (objects : Objects) (a : Packet) (p : Prefix) (v : Option Vrf) (g : Option Goal) (f : Forward) (best : Option (ℕ × Forward)) → covers p a.to ≡ true → is_longer p.len best ≡ true → is_router a.vrf v ≡ true → Some f ≡ option_map (sent objects) g → (r : Option (Prefix × Goal)) → pick objects (Some (p.len, f)) r ≡ pick objects best (with_goal a p v g r)
-pick-better objects a p None g f best c l i h r = absurd (false≢true i)
-pick-better objects a p (Some v) None f best c l i h r = absurd cc
-pick-better objects a p (Some v) (Some g) f best c l i h r =
-    let same : f ≡ sent objects g = cc in
-    ap (λ x. pick objects (Some (p.len, x)) r) same
-    ∙ better_covered objects best p g r l
-    ∙ ap (pick objects best) (covered_by a p v g r c i)
-
-pub pick-last : (objects : Objects) (best : Option (ℕ × Forward)) → pick objects best None ≡ option_map (λ b. b.1) best
-pick-last objects None = refl
-pick-last objects (Some best) = refl
 
 -- where the best route sends is where the chip does
 pub decided : (objects : Objects) (best : Option Forward) (r : Option (Prefix × Goal)) → best ≡ option_map (λ r. sent objects r.1) r → unwrap_or best forward.Drop ≡ answer_of (forwarding_of (those (named objects)) (decide_route r))
@@ -205,3 +128,8 @@ pub through-stands : (objects : Objects) (rif : Rid) (ip : Ip) → refers_well o
 through-stands objects rif ip well =
     let parts = and_parts (stands objects (kind.Rif, entry.Oid rif)) (is_some (body_at objects (entry.Neigh rif ip)) && true) well in
     (and_parts (is_some (body_at objects (entry.Neigh rif ip))) true parts.1).0
+
+-- where the best of routes sends, by its goal alone
+pub sent-best : (objects : Objects) (r : Option (Prefix × Goal)) → option_map (λ r. sent objects r.1) r ≡ option_map (sent objects) (option_map (λ r. r.1) r)
+sent-best objects None = refl
+sent-best objects (Some r) = refl

@@ -1,5 +1,5 @@
 -- Where a simulated chip sends packets, as its caller sees it. Own.
-use Rattle.std.specs.Prelude.{ℕ, Bool, true, nat_lt, List, [], ◌∷◌, map, Option, Some, None, option_map, if◌then◌else◌}
+use Rattle.std.specs.Prelude.{ℕ, List, [], ◌∷◌, map, Option, Some, None, option_map}
 use Rattle.std.specs.Ordering.{match_ordering}
 use Rattle.swss_types.specs.declared.address.Mac.{Mac}
 use Rattle.swss_types.specs.declared.address.Prefix.{Prefix}
@@ -38,11 +38,6 @@ answer_of (forwarding.Through hops) = forward.Via (ways_of hops)
 abbrev pub sent : Objects → Goal → Forward
 sent objects goal = answer_of (forwarding_of (those (named objects)) (decision_of goal))
 
--- whether a prefix of this length is longer than that of the best route so far
-abbrev pub is_longer : ℕ → Option (ℕ × Forward) → Bool
-is_longer len None = true
-is_longer len (Some best) = nat_lt best.0 len
-
 -- a hop with its Ethernet address, where it has one
 abbrev pub way_of : Objects → WHop → WHop × Option Mac
 way_of objects whop = (whop, hop_mac (those (named objects)) whop.hop)
@@ -64,12 +59,6 @@ weight_beside (Some there) weight = heavier there.0 weight
 abbrev pub more_ways : List (WHop × Option Mac) → WHop × Option Mac → List (WHop × Option Mac)
 more_ways [] way = way ∷ []
 more_ways (x ∷ xs) way = match_ordering (hop_cmp way.0.hop x.0.hop) (way ∷ x ∷ xs) ((record { hop = x.0.hop; weight = heavier x.0.weight way.0.weight }, way.1) ∷ xs) (x ∷ more_ways xs way)
-
--- of the best route so far and the best of the others, where the better one sends
-abbrev pub pick : Objects → Option (ℕ × Forward) → Option (Prefix × Goal) → Option Forward
-pick objects None r = option_map (λ r. sent objects r.1) r
-pick objects (Some best) None = Some best.1
-pick objects (Some best) (Some r) = if nat_lt best.0 r.0.len then Some (sent objects r.1) else Some best.1
 
 -- a route in this router to this goal beside the best of others; none where it has no router or no goal
 abbrev pub with_goal : Packet → Prefix → Option Vrf → Option Goal → Option (Prefix × Goal) → Option (Prefix × Goal)

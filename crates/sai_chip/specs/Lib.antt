@@ -5,4 +5,5 @@ pub mod Marks
 pub mod Replay
 pub mod Sim
 pub mod SimChip
+pub mod Tables
 pub mod Tally

@@ -4,28 +4,28 @@ ghost use Rattle.std.specs.BTreeMap.{insert_entry, is_at};
 ghost use Rattle.std.specs.BTreeSet.{insert_key};
 ghost use Rattle.std.specs.List.{list_any};
 ghost use Rattle.std.specs.Map.{lookup, remove_entry};
-ghost use Rattle.std.specs.Option.{is_some, option_map};
+ghost use Rattle.std.specs.Option.{is_some, option_and_then, option_map};
 ghost use Rattle.sai_types.specs.After.{after_set, entry_of, has_id};
 ghost use Rattle.sai_types.specs.ChipState.{objects_of};
 ghost use Rattle.sai_types.specs.Forwarding.{best_route, has_own, hop_mac};
-ghost use Rattle.sai_types.specs.Made.{AreSorted, HaveOneEach};
-ghost use Rattle.sai_types.specs.Named.{hop_on, named, router_at, those};
+ghost use Rattle.sai_types.specs.Made.{AreSorted, HaveOneEach, ReferWell};
+ghost use Rattle.sai_types.specs.Named.{goal_by, hop_on, hops_at, named, router_at, those};
 ghost use Rattle.sai_types.specs.Objects.{body_at, entry_cmp};
 ghost use Rattle.sai_types.specs.Refusal.{clash};
 ghost use Rattle.sai_types.specs.declared.hop.Hop.{Hop};
 ghost use Rattle.swss_types.specs.declared.vrf.Packet.{Packet};
 ghost use Rattle.chip_names.specs.Naming.{AreBodies, numbered, rid_cmp};
-ghost use Rattle.sai_chip.specs.Bodies.{best_of, ids_set, is_own_key, is_router, keyed_at, macs_set, own_cmp, owned, reached, route_cmp, routed, target_of, targets_set, value_set};
+ghost use Rattle.sai_chip.specs.Bodies.{ids_set, is_own_key, is_router, keyed_at, macs_set, own_cmp, owned, reached, route_cmp, routed, target_of, targets_set};
 ghost use Rattle.sai_chip.specs.Tally.{neighbor_cmp};
 
 use crate::effect::set_attr;
+use crate::routing::{Routing, Targets};
 use chip_names::{Numbered, router_at};
 use late_maps::LateMap;
 use sai_types::{Attr, Body, Entry, Object, Rid, To, empty_is_whole, entries_stay_sorted};
 use std::alloc::Global;
 use std::collections::{BTreeMap, BTreeSet};
 use std::marker::Model;
-use std::mem::replace;
 use swss_types::{Ip, Mac, OutOfMemory, Packet, Prefix, Vrf};
 
 /// The Ethernet addresses of neighbours, by their interfaces and addresses.
@@ -37,16 +37,13 @@ pub type OwnKey = (Option<Rid>, Ip);
 /// A route: its virtual router, unless it is in the default one, and its prefix.
 pub type RouteKey = (Option<Rid>, Prefix);
 
-/// Where routes point, by their routers and prefixes, which mostly come in their order.
-pub type Routes = LateMap<RouteKey, To<Rid>>;
-
 /// The bodies of objects: those with identifiers, and those that are found by their own keys.
 #[derive(Drop)]
 pub struct Bodies {
     numbered: Numbered,
     own: BTreeSet<OwnKey>,
     neighbors: Neighbors,
-    routes: Routes,
+    routes: Routing,
 }
 
 impl Model for Bodies {
@@ -71,7 +68,7 @@ impl Bodies {
             numbered: LateMap::new(alloc),
             own: BTreeSet::new(alloc),
             neighbors: BTreeMap::new(alloc),
-            routes: LateMap::new(alloc),
+            routes: Routing::new(alloc),
         }
     }
 
@@ -155,13 +152,6 @@ impl Bodies {
         }
     }
 
-    /// Whether the virtual router of an object is there, and is this one.
-    pub fn is_in(&self, vr: Option<Rid>, vrf: Vrf) -> bool
-        ensures { result ≡ is_router vrf (router_at self.now vr) }
-    {
-        is_router(&self.numbered, vr, vrf)
-    }
-
     /// The Ethernet address of a neighbour that stands.
     pub fn mac(&self, rif: Rid, ip: Ip) -> Option<Mac>
         requires one { HaveOneEach self.now }
@@ -171,11 +161,13 @@ impl Bodies {
         self.neighbors.get(&(rif, ip)).copied()
     }
 
-    /// The routes by their routers and prefixes. No other object decides where an address goes that is not the switch's own.
-    pub fn routes(&self) -> &Routes
-        ensures { (a : Packet) → best_route (those (named self.now)) a ≡ best_of self.now result.now a }
+    /// Where the route of the packet's router points whose prefix is the longest that covers its address: None where there is
+    /// none. No other object decides where a packet goes that is not to one of the switch's own addresses.
+    pub fn best(&self, packet: &Packet) -> Option<To<Rid>>
+        requires { ReferWell self.now }
+        ensures { option_map (λ r. r.1) (best_route (those (named self.now)) packet.now) ≡ option_and_then (goal_by (hops_at self.now) self.now) result }
     {
-        &self.routes
+        self.routes.best(&self.numbered, packet)
     }
 
     /// Puts an object in place of the one with the same entry, and answers the body of that one, if there is one. The
@@ -216,7 +208,7 @@ impl Bodies {
     {
         entries_stay_sorted();
         match *entry {
-            Entry::Route(vr, prefix) => point(&mut self.routes, &(vr, prefix), to),
+            Entry::Route(vr, prefix) => self.routes.point(&(vr, prefix), to),
             _ => None,
         }
     }
@@ -254,7 +246,7 @@ impl Bodies {
         push_numbered(&self.numbered, out)?;
         push_own(&self.own, out)?;
         push_neighbors(&self.neighbors, out)?;
-        push_routes(&self.routes, out)
+        push_routes(self.routes.targets(), out)
     }
 
     /// How many objects there are, for which a list makes room.
@@ -263,7 +255,7 @@ impl Bodies {
         let keyed = self.own.len().saturating_add(self.neighbors.len());
         numbered
             .saturating_add(keyed)
-            .saturating_add(self.routes.len())
+            .saturating_add(self.routes.targets().len())
     }
 }
 
@@ -324,7 +316,7 @@ fn put_neighbor(
 
 /// Puts the target of a route, and answers the body of the route, if it stood before.
 fn put_route(
-    routes: &mut Routes,
+    routes: &mut Routing,
     key: &RouteKey,
     to: To<Rid>,
 ) -> Result<Option<Body<Rid>>, Body<Rid>>
@@ -363,7 +355,7 @@ fn is_own_key(bodies: &Numbered, key: &OwnKey, packet: &Packet) -> bool
 }
 
 /// Whether the virtual router of an object is there, and is this one.
-fn is_router(bodies: &Numbered, vr: Option<Rid>, vrf: Vrf) -> bool
+pub fn is_router(bodies: &Numbered, vr: Option<Rid>, vrf: Vrf) -> bool
     ensures { result ≡ is_router vrf (router_at (numbered bodies.now) vr) }
 {
     match router_at(bodies, vr) {
@@ -431,22 +423,11 @@ fn set_mac(neighbors: &mut Neighbors, key: (Rid, Ip), attr: &Attr<Rid>)
 }
 
 /// Sets the target of a route, if it is there.
-fn set_target(routes: &mut Routes, key: RouteKey, attr: &Attr<Rid>)
+fn set_target(routes: &mut Routing, key: RouteKey, attr: &Attr<Rid>)
     ensures { routes.new ≡ targets_set routes.old key attr.now }
 {
     if let Attr::To(to) = attr {
-        point(routes, &key, *to);
-    }
-}
-
-/// Points a route elsewhere, if it is there, and answers where it pointed.
-fn point(routes: &mut Routes, key: &RouteKey, to: To<Rid>) -> Option<To<Rid>>
-    ensures set { routes.new ≡ value_set (is_at (route_cmp key.now)) routes.old to }
-    ensures from { result ≡ lookup (is_at (route_cmp key.now)) routes.old }
-{
-    match routes.get_mut(key) {
-        Some(held) => Some(replace(held, to)),
-        None => None,
+        routes.point(&key, *to);
     }
 }
 
@@ -497,7 +478,7 @@ fn push_neighbors(neighbors: &Neighbors, out: &mut Vec<Object<Rid>>) -> Result<(
 }
 
 /// Appends each route.
-fn push_routes(routes: &Routes, out: &mut Vec<Object<Rid>>) -> Result<(), OutOfMemory>
+fn push_routes(routes: &Targets, out: &mut Vec<Object<Rid>>) -> Result<(), OutOfMemory>
     ensures ok { OnOk result (out.new.items ≡ out.old.items ++ objects_of (routed routes.now)) }
     ensures err { OnErr result (take (length out.old.items) out.new.items ≡ out.old.items) }
 {

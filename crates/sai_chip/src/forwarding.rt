@@ -1,19 +1,16 @@
 // Where a chip sends packets.
-ghost use Rattle.std.specs.Prelude.{◌≡◌, true, Option, IfOk, option_copied, option_map};
+ghost use Rattle.std.specs.Prelude.{◌≡◌, true, IfOk, option_copied, option_map};
 ghost use Rattle.std.specs.Option.{is_some};
-ghost use Rattle.swss_types.specs.Address.{covers};
 ghost use Rattle.sai_types.specs.Forwarding.{best_route, forward};
 ghost use Rattle.sai_types.specs.Hop.{heavier};
 ghost use Rattle.sai_types.specs.Made.{HaveOneEach, ReferWell};
-ghost use Rattle.sai_types.specs.Named.{both, goal_by, hop_on, hops_at, named, router_at, those, whop_at};
+ghost use Rattle.sai_types.specs.Named.{both, goal_by, hop_on, hops_at, named, those, whop_at};
 ghost use Rattle.sai_types.specs.Objects.{body_at};
 ghost use Rattle.sai_types.specs.declared.body.Entry.TheVariants as entry;
 ghost use Rattle.sai_types.specs.declared.thing.Goal.{Goal};
-ghost use Rattle.swss_types.specs.declared.address.Prefix.{Prefix};
 ghost use Rattle.chip_names.specs.Members.{hops_by};
-ghost use Rattle.sai_chip.specs.Forward.{answer_of, is_longer, more_ways, pick, sent, way_of, ways_by, ways_in, ways_of, weight_beside, with_goal};
+ghost use Rattle.sai_chip.specs.Forward.{answer_of, more_ways, sent, way_of, ways_by, ways_in, ways_of, weight_beside};
 
-use crate::bodies::RouteKey;
 use crate::forward::Forward;
 use crate::held::Held;
 use crate::ways::Ways;
@@ -21,7 +18,7 @@ use chip_names::{hop_on, rif_at};
 use sai_types::{Body, Hop, Rid, To, WHop, Weight};
 use std::alloc::Global;
 use std::collections::BTreeMap;
-use swss_types::{Ip, Mac, OutOfMemory, Packet, Prefix, V6_BITS};
+use swss_types::{Ip, Mac, OutOfMemory, Packet};
 
 /// Hops, rising, each with its weight and its Ethernet address, where it has one.
 type Macs = BTreeMap<Hop, (Weight, Option<Mac>)>;
@@ -45,62 +42,10 @@ fn best_route(alloc: Global, held: &Held, packet: &Packet) -> Result<Option<Forw
     requires one { HaveOneEach held.now }
     ensures { IfOk result (λ best. best ≡ option_map (λ r. sent held.now r.1) (best_route (those (named held.now)) packet.now)) }
 {
-    let mut best = None;
-    for (key, to) in held.bodies().routes().iter() {
-        best = with_route(alloc, held, packet, best, key, *to)?;
+    match held.bodies().best(packet) {
+        Some(to) => forward_to(alloc, held, to),
+        None => Ok(None),
     }
-    Ok(best.map(|route| route.1))
-}
-
-/// Of the best route so far and one more, the better: the one more where it is in the packet's router and covers its
-/// address, and its prefix is longer.
-fn with_route(
-    alloc: Global,
-    held: &Held,
-    packet: &Packet,
-    best: Option<(u8, Forward)>,
-    key: &RouteKey,
-    to: To<Rid>,
-) -> Result<Option<(u8, Forward)>, OutOfMemory>
-    requires refer { ReferWell held.now }
-    requires one { HaveOneEach held.now }
-    ensures { IfOk result (λ better. (r : Option (Prefix × Goal)) → pick held.now better r ≡ pick held.now best (with_goal packet.now key.now.1 (router_at held.now key.now.0) (goal_by (hops_at held.now) held.now to) r)) }
-{
-    if !covers(&key.1, &packet.to) {
-        return Ok(best);
-    }
-    if !is_longer(&key.1, &best) {
-        return Ok(best);
-    }
-    if !held.bodies().is_in(key.0, packet.vrf) {
-        return Ok(best);
-    }
-    match forward_to(alloc, held, to)? {
-        Some(forward) => Ok(Some((key.1.len, forward))),
-        None => Ok(best),
-    }
-}
-
-/// Whether the prefix is longer than that of the best route so far.
-fn is_longer(prefix: &Prefix, best: &Option<(u8, Forward)>) -> bool
-    ensures { result ≡ is_longer prefix.now.len best.now }
-{
-    match best {
-        Some((len, _)) => *len < prefix.len,
-        None => true,
-    }
-}
-
-/// Whether the address is of the prefix's family and agrees with it in the prefix's first bits.
-fn covers(prefix: &Prefix, ip: &Ip) -> bool
-    ensures { result ≡ covers prefix.now ip.now }
-{
-    if prefix.ip.family != ip.family {
-        return false;
-    }
-    let (bits, others) = (prefix.ip.bits.number(), ip.bits.number());
-    let rest = ip.family.width().saturating_sub(prefix.len);
-    rest == V6_BITS || bits >> rest == others >> rest
 }
 
 /// Where a route with this target sends: None where a reference is absent.

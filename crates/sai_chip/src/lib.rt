@@ -13,8 +13,10 @@ mod marks;
 mod membership;
 mod remade;
 mod replay;
+mod routing;
 mod sim;
 mod table;
+mod tables;
 mod tally;
 mod ways;
 

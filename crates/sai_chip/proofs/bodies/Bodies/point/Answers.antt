@@ -8,7 +8,7 @@ use Rattle.sai_chip.proofs.Kept.{unpointed}
 use Rattle.sai_chip.proofs.bodies.Bodies.point.Goals as goal
 
 pub invariant_of-self : goal.invariant_of-self
-invariant_of-self c = keeps (objects_in c.self.inside.numbered c.self.inside.own.keys c.self.inside.neighbors.entries c.self.inside.routes) 0 (call.Set (entry.Route c.in-Route.vr c.in-Route.prefix) (attr.To c.args.to)) c.self.inside.numbered c.self.inside.own.keys c.self.inside.neighbors.entries c.point.new.routes c.entries_stay_sorted.ensures c.self.invariant.sorted (ap (λ l. objects_in c.self.inside.numbered c.self.inside.own.keys c.self.inside.neighbors.entries l) c.point.ensures.set ∙ set-target c.self.inside.numbered c.self.inside.own.keys c.self.inside.neighbors.entries c.self.inside.routes c.self.invariant.sorted c.in-Route.vr c.in-Route.prefix (attr.To c.args.to)) c.self.invariant.with_ids
+invariant_of-self c = keeps (objects_in c.self.inside.numbered c.self.inside.own.keys c.self.inside.neighbors.entries c.self.inside.routes) 0 (call.Set (entry.Route c.in-Route.vr c.in-Route.prefix) (attr.To c.args.to)) c.self.inside.numbered c.self.inside.own.keys c.self.inside.neighbors.entries c.point.new.self c.entries_stay_sorted.ensures c.self.invariant.sorted (ap (λ l. objects_in c.self.inside.numbered c.self.inside.own.keys c.self.inside.neighbors.entries l) c.point.ensures.set ∙ set-target c.self.inside.numbered c.self.inside.own.keys c.self.inside.neighbors.entries c.self.inside.routes c.self.invariant.sorted c.in-Route.vr c.in-Route.prefix (attr.To c.args.to)) c.self.invariant.with_ids
 
 pub returns-in-Route-clause-set : goal.returns-in-Route-clause-set
 returns-in-Route-clause-set c = rw (c.in-Route.is, ← c.self.view_is) (ap (λ l. objects_in c.self.inside.numbered c.self.inside.own.keys c.self.inside.neighbors.entries l) c.point.ensures.set ∙ set-target c.self.inside.numbered c.self.inside.own.keys c.self.inside.neighbors.entries c.self.inside.routes c.self.invariant.sorted c.in-Route.vr c.in-Route.prefix (attr.To c.args.to))

@@ -1,0 +1,13 @@
+pub mod Alls
+pub mod Aparts
+pub mod Begins
+pub mod Bests
+pub mod Families
+pub mod Keys
+pub mod Longests
+pub mod Nodes
+pub mod Orders
+pub mod Sides
+pub mod Steps
+pub mod Walks
+pub mod Withins

@@ -1,0 +1,4 @@
+pub mod Below
+pub mod Longest
+pub mod Parts
+pub mod Trees
