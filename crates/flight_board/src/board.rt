@@ -18,16 +18,13 @@ use crate::flight::Flight;
 use crate::workers::Workers;
 use orch_flight::unapplied;
 use ref_counts::{Registry, Room};
-use sai_types::{Call, Caps, KindCounts, Vid};
+use sai_types::{Call, Caps, Kind, KindCounts, Vid};
 use std::alloc::Global;
 use std::marker::Model;
 use std::mem::{drop, replace};
 use switch_model::Wait;
 use swss_types::{OutOfMemory, Vrf};
 use table_schema::{Key, PortPlan, Row, first_name};
-
-/// Where the number of router interfaces stands among those of all kinds.
-const RIFS: usize = 5;
 
 /// The rows that are applied, and the operations of up to four workers, which know names, users, pins and places, and no chip.
 #[derive(Drop)]
@@ -186,7 +183,8 @@ impl Board {
         ensures { AreCountedWith self.now used.now result }
     {
         let mut counted = *used;
-        counted[RIFS] += self.workers.between();
+        let place = Kind::Rif.index();
+        counted[place] += self.workers.between();
         counted
     }
 

@@ -1,5 +1,5 @@
 -- a good row all of whose names are applied is one of its table
-use Rattle.std.proofs.Common.{◌≡◌, ◌+◌, ◌<◌, ◌≤◌, ◌==◌, ◌&&◌, ◌∷◌, ◌++◌, ◌∙◌, ℕ, nat_le, nat_lt, Bool, true, false, cond, List, [], map, length, Option, None, Some, option_map, is_some, Result, Ok, Err, codes, refl, sym, ap, subst, arith}
+use Rattle.std.proofs.Common.{◌≡◌, ◌+◌, ◌<◌, ◌≤◌, ◌==◌, ◌&&◌, ◌∷◌, ◌++◌, ◌∙◌, ℕ, nat_le, nat_lt, Bool, true, false, cond, List, [], map, length, Option, None, Some, option_map, unwrap_or, is_some, Result, Ok, Err, codes, refl, sym, ap, subst, arith}
 use Rattle.std.proofs.lemmas.Bool.{and_from, and_parts, eqb-true}
 use Rattle.std.proofs.lemmas.List.Splits.{length-slice_split}
 use Rattle.std.specs.List.{AllByRecursion}
@@ -8,6 +8,7 @@ use Rattle.swss_types.specs.Interface.{if_name_of}
 use Rattle.swss_types.specs.Ip.{ip_of}
 use Rattle.swss_types.specs.Parts.{parts_at}
 use Rattle.swss_types.specs.Tagging.{tagging_of}
+use Rattle.swss_types.specs.VrfNames.{first_part}
 use Rattle.swss_types.specs.declared.address.Ip.{Ip}
 use Rattle.swss_types.specs.declared.address.Prefix.{Prefix}
 use Rattle.swss_types.specs.declared.tagging.Tagging.{Tagging}
@@ -23,7 +24,7 @@ use Rattle.table_schema.specs.Hop.{put_row_hop, row_hop_cmp}
 use Rattle.table_schema.specs.KeyText.{on_switch}
 use Rattle.table_schema.specs.Names.{base_names, names_of, names_of_intf, route_names, router_names}
 use Rattle.table_schema.specs.Plan.{Ports, lanes_in_plan}
-use Rattle.table_schema.specs.RouteRules.{drops_of, field_filled, route_hops_of, hop_at, hop_of_texts, hop_or_why, hops_of_texts, hops_with, is_zero, route_row_of, route_target, target_of_hops}
+use Rattle.table_schema.specs.RouteRules.{are_weights_of, counts_of, drops_of, field_filled, route_hops_of, hop_at, hop_of_texts, hop_or_why, hops_of_texts, hops_with, is_zero, other_parts, route_row_of, route_target, target_of_hops, weight_of, weighted_hop}
 use Rattle.table_schema.specs.Rules.{number_or, other_row, port_lanes, port_row_of, port_row_with, row_of, tagged_row, tagging_row, up_of}
 use Rattle.table_schema.specs.Split.{split_once}
 use Rattle.table_schema.specs.declared.key.Key.{Key}
@@ -117,12 +118,22 @@ hop_on_ok : (several : Bool) (text : List ℕ) (on : Option IfName) (ip : Option
 hop_on_ok several text None ip h is e = absurd cc
 hop_on_ok several text (Some on) ip h is e = subst (λ z. on_switch (Some z) ≡ Some z) (sym (hop_at_ok several on ip h e)) (on_switch_stays (if_name_of text) on is).1
 
-hops_with_ok : (several : Bool) (hops : List (RowHop × ℕ)) (ips names : List (List ℕ)) (out : List (RowHop × ℕ)) → AreSwitched hops → hops_with several hops ips names ≡ Ok out → AreSwitched out
-hops_with_ok several hops [] names out all h = subst AreSwitched (same_okay hops out h) all
-hops_with_ok several hops (ip ∷ ips) [] out all h = subst AreSwitched (same_okay hops out h) all
-hops_with_ok several hops (ip ∷ ips) (on ∷ names) out all h =
-    let x = both_hold (hop_of_texts several ip on) (λ hop. hops_with several (put_row_hop hops hop 1) ips names) out h in
-    hops_with_ok several (put_row_hop hops x.0 1) ips names out (AllByRecursion-put_row_hop (λ h. IsSwitched h.0) hops x.0 1 (hop_on_ok several on (on_switch (if_name_of on)) (ip_of ip) x.0 refl x.1) (λ h on. on) all) x.2
+weighted_ok : (several : Bool) (ip on weight : List ℕ) (hop : RowHop × ℕ) → weighted_hop several ip on weight ≡ Ok hop → IsSwitched hop.0
+weighted_ok several ip on weight hop h =
+    let x = both_hold (hop_of_texts several ip on) (λ hop. and_then (weight_of weight) (λ weight. Ok (hop, weight))) hop h in
+    let y = both_hold (weight_of weight) (λ weight. Ok (x.0, weight)) hop x.2 in
+    subst (λ z. IsSwitched z.0) (same_okay (x.0, y.0) hop y.2) (hop_on_ok several on (on_switch (if_name_of on)) (ip_of ip) x.0 refl x.1)
+
+-- the hops behind the first
+abbrev with_rest : Bool → List (RowHop × ℕ) → List (List ℕ) → List (List ℕ) → List (List ℕ) → RowHop × ℕ → Result (List (RowHop × ℕ)) BadRow
+with_rest several hops ips names weights hop = hops_with several (put_row_hop hops hop.0 hop.1) ips names (other_parts weights)
+
+hops_with_ok : (several : Bool) (hops : List (RowHop × ℕ)) (ips names weights : List (List ℕ)) (out : List (RowHop × ℕ)) → AreSwitched hops → hops_with several hops ips names weights ≡ Ok out → AreSwitched out
+hops_with_ok several hops [] names weights out all h = subst AreSwitched (same_okay hops out h) all
+hops_with_ok several hops (ip ∷ ips) [] weights out all h = subst AreSwitched (same_okay hops out h) all
+hops_with_ok several hops (ip ∷ ips) (on ∷ names) weights out all h =
+    let x = both_hold (weighted_hop several ip on (first_part weights)) (with_rest several hops ips names weights) out h in
+    hops_with_ok several (put_row_hop hops x.0.0 x.0.1) ips names (other_parts weights) out (AllByRecursion-put_row_hop (λ h. IsSwitched h.0) hops x.0.0 x.0.1 (weighted_ok several ip on (first_part weights) x.0 x.1) (λ h on. on) all) x.2
 
 some_row : (hops : List (RowHop × ℕ)) (hop : RowHop) (weight : ℕ) → 0 < length (put_row_hop hops hop weight)
 some_row [] hop weight = omega arith
@@ -145,47 +156,57 @@ put-few (x ∷ hops) hop =
     let rest = put-few hops hop in
     elim (hop_cmp hop.hop x.hop) as (λ r. length (placed r x hops hop) ≤ length (x ∷ hops) + 1) [ Less ↦ omega arith | Equal ↦ omega arith | Greater ↦ omega (arith, rest) ]
 
-hops_with_few : (several : Bool) (hops : List (RowHop × ℕ)) (ips names : List (List ℕ)) (out : List (RowHop × ℕ)) → hops_with several hops ips names ≡ Ok out → length out ≤ length hops + length ips
-hops_with_few several hops [] names out h = let same = ap length (same_okay hops out h) in omega (arith, same)
-hops_with_few several hops (ip ∷ ips) [] out h = let same = ap length (same_okay hops out h) in omega (arith, same)
-hops_with_few several hops (ip ∷ ips) (on ∷ names) out h =
-    let x = both_hold (hop_of_texts several ip on) (λ hop. hops_with several (put_row_hop hops hop 1) ips names) out h in
-    let rest = hops_with_few several (put_row_hop hops x.0 1) ips names out x.2 in
-    let one = row-few hops x.0 1 in
+hops_with_few : (several : Bool) (hops : List (RowHop × ℕ)) (ips names weights : List (List ℕ)) (out : List (RowHop × ℕ)) → hops_with several hops ips names weights ≡ Ok out → length out ≤ length hops + length ips
+hops_with_few several hops [] names weights out h = let same = ap length (same_okay hops out h) in omega (arith, same)
+hops_with_few several hops (ip ∷ ips) [] weights out h = let same = ap length (same_okay hops out h) in omega (arith, same)
+hops_with_few several hops (ip ∷ ips) (on ∷ names) weights out h =
+    let x = both_hold (weighted_hop several ip on (first_part weights)) (with_rest several hops ips names weights) out h in
+    let rest = hops_with_few several (put_row_hop hops x.0.0 x.0.1) ips names (other_parts weights) out x.2 in
+    let one = row-few hops x.0.0 x.0.1 in
     omega (arith, rest, one)
 
-stay_some : (several : Bool) (hops : List (RowHop × ℕ)) (ips names : List (List ℕ)) (out : List (RowHop × ℕ)) → 0 < length hops → hops_with several hops ips names ≡ Ok out → 0 < length out
-stay_some several hops [] names out some h = subst (λ z. 0 < length z) (same_okay hops out h) some
-stay_some several hops (ip ∷ ips) [] out some h = subst (λ z. 0 < length z) (same_okay hops out h) some
-stay_some several hops (ip ∷ ips) (on ∷ names) out some h =
-    let x = both_hold (hop_of_texts several ip on) (λ hop. hops_with several (put_row_hop hops hop 1) ips names) out h in
-    stay_some several (put_row_hop hops x.0 1) ips names out (some_row hops x.0 1) x.2
+stay_some : (several : Bool) (hops : List (RowHop × ℕ)) (ips names weights : List (List ℕ)) (out : List (RowHop × ℕ)) → 0 < length hops → hops_with several hops ips names weights ≡ Ok out → 0 < length out
+stay_some several hops [] names weights out some h = subst (λ z. 0 < length z) (same_okay hops out h) some
+stay_some several hops (ip ∷ ips) [] weights out some h = subst (λ z. 0 < length z) (same_okay hops out h) some
+stay_some several hops (ip ∷ ips) (on ∷ names) weights out some h =
+    let x = both_hold (weighted_hop several ip on (first_part weights)) (with_rest several hops ips names weights) out h in
+    stay_some several (put_row_hop hops x.0.0 x.0.1) ips names (other_parts weights) out (some_row hops x.0.0 x.0.1) x.2
 
-read_hops_some : (several : Bool) (ips names : List (List ℕ)) (out : List (RowHop × ℕ)) → 0 < length ips → length ips ≡ length names → hops_with several [] ips names ≡ Ok out → 0 < length out
-read_hops_some several [] names out some same h = absurd (omega (arith, some))
-read_hops_some several (ip ∷ ips) [] out some same h = absurd (omega (arith, same))
-read_hops_some several (ip ∷ ips) (on ∷ names) out some same h =
-    let x = both_hold (hop_of_texts several ip on) (λ hop. hops_with several (put_row_hop [] hop 1) ips names) out h in
-    stay_some several (put_row_hop [] x.0 1) ips names out (some_row [] x.0 1) x.2
+read_hops_some : (several : Bool) (ips names weights : List (List ℕ)) (out : List (RowHop × ℕ)) → 0 < length ips → length ips ≡ length names → hops_with several [] ips names weights ≡ Ok out → 0 < length out
+read_hops_some several [] names weights out some same h = absurd (omega (arith, some))
+read_hops_some several (ip ∷ ips) [] weights out some same h = absurd (omega (arith, same))
+read_hops_some several (ip ∷ ips) (on ∷ names) weights out some same h =
+    let x = both_hold (weighted_hop several ip on (first_part weights)) (with_rest several [] ips names weights) out h in
+    stay_some several (put_row_hop [] x.0.0 x.0.1) ips names (other_parts weights) out (some_row [] x.0.0 x.0.1) x.2
 
 record AreSwitchedHops (out : List (RowHop × ℕ)) : Type 0 where
   all : AreSwitched out
   some : 0 < length out
   few : length out ≤ 128
 
-hops_ok : (ips names : List (List ℕ)) (out : List (RowHop × ℕ)) → 0 < length ips → hops_of_texts ips names ≡ Ok out → AreSwitchedHops out
-hops_ok ips names out some h = counted (length ips == length names) refl h
+-- lists whose numbers of elements are as they have to be
+counted : (m n : ℕ) (weights : List ℕ) (u : Unit {0}) → counts_of m n weights ≡ Ok u → (m ≡ n) × (m ≤ 128)
+counted m n weights u h = same (m == n) refl h
   where
-    few : (b : Bool) → nat_le (length ips) 128 ≡ b → length ips ≡ length names → cond b (hops_with (nat_lt 1 (length ips)) [] ips names) (bad TooManyHops 7) ≡ Ok out → AreSwitchedHops out
-    few true most same h =
-        let bound = most_by_test (length ips) 128 most in
-        let number = hops_with_few (nat_lt 1 (length ips)) [] ips names out h in
-        record { all = hops_with_ok (nat_lt 1 (length ips)) [] ips names out tt h; some = read_hops_some (nat_lt 1 (length ips)) ips names out some same h; few = omega (arith, bound, number) }
-    few false most same h = absurd cc
+    most : (b : Bool) → nat_le m 128 ≡ b → m ≡ n → cond b (Ok tt) (bad TooManyHops 7) ≡ Ok u → (m ≡ n) × (m ≤ 128)
+    most true few is h = (is, most_by_test m 128 few)
+    most false few is h = absurd cc
 
-    counted : (b : Bool) → (length ips == length names) ≡ b → cond b (cond (nat_le (length ips) 128) (hops_with (nat_lt 1 (length ips)) [] ips names) (bad TooManyHops 7)) (bad CountsDiffer 8) ≡ Ok out → AreSwitchedHops out
-    counted true same h = few (nat_le (length ips) 128) refl (eqb-true (length ips) (length names) same) h
-    counted false same h = absurd cc
+    weighed : (b : Bool) → m ≡ n → cond b (cond (nat_le m 128) (Ok tt) (bad TooManyHops 7)) (bad CountsDiffer 15) ≡ Ok u → (m ≡ n) × (m ≤ 128)
+    weighed true is h = most (nat_le m 128) refl is h
+    weighed false is h = absurd cc
+
+    same : (b : Bool) → (m == n) ≡ b → cond b (cond (are_weights_of weights m) (cond (nat_le m 128) (Ok tt) (bad TooManyHops 7)) (bad CountsDiffer 15)) (bad CountsDiffer 8) ≡ Ok u → (m ≡ n) × (m ≤ 128)
+    same true is h = weighed (are_weights_of weights m) (eqb-true m n is) h
+    same false is h = absurd cc
+
+hops_ok : (ips names : List (List ℕ)) (weights : List ℕ) (out : List (RowHop × ℕ)) → 0 < length ips → hops_of_texts ips names weights ≡ Ok out → AreSwitchedHops out
+hops_ok ips names weights out some h =
+    let several = nat_lt 1 (length ips) in
+    let x = both_hold (counts_of (length ips) (length names) weights) (λ _. hops_with several [] ips names (parts_at 44 weights)) out h in
+    let (same, bound) = counted (length ips) (length names) weights x.0 x.1 in
+    let number = hops_with_few several [] ips names (parts_at 44 weights) out x.2 in
+    record { all = hops_with_ok several [] ips names (parts_at 44 weights) out tt x.2; some = read_hops_some several ips names (parts_at 44 weights) out some same x.2; few = omega (arith, bound, number) }
 
 data IsTarget (t : RouteRow) : Type 0 where
   IsDrop : t ≡ route.Drop → IsTarget t
@@ -195,9 +216,10 @@ forwarding_ok : (fields : Pairs) (t : RouteRow) → route_hops_of fields ≡ Ok 
 forwarding_ok fields t h =
     let ips = both_hold (field_filled 7 (value_of (codes "nexthop") fields)) _ t h in
     let names = both_hold (field_filled 8 (value_of (codes "ifname") fields)) _ t ips.2 in
-    let out = both_hold (hops_of_texts (parts_at 44 ips.0) (parts_at 44 names.0)) (λ hops. Ok (target_of_hops hops)) t names.2 in
+    let weights = unwrap_or (value_of (codes "weight") fields) [] in
+    let out = both_hold (hops_of_texts (parts_at 44 ips.0) (parts_at 44 names.0) weights) (λ hops. Ok (target_of_hops hops)) t names.2 in
     let many = length-slice_split (λ b. b == 44) ips.0 in
-    Goes out.0 (hops_ok (parts_at 44 ips.0) (parts_at 44 names.0) out.0 (omega (arith, many)) out.1) (sym (same_okay (target_of_hops out.0) t out.2))
+    Goes out.0 (hops_ok (parts_at 44 ips.0) (parts_at 44 names.0) weights out.0 (omega (arith, many)) out.1) (sym (same_okay (target_of_hops out.0) t out.2))
 
 target_ok : (drops : Bool) (fields : Pairs) (t : RouteRow) → route_target drops fields ≡ Ok t → IsTarget t
 target_ok true fields t h = IsDrop (sym (same_okay route.Drop t h))
@@ -219,7 +241,7 @@ target_few : (out : List (RowHop × ℕ)) → hop_count (target_of_hops out) ≤
 target_few [] = omega arith
 target_few (x ∷ []) = by (is_zero x.0.ip)
   where
-    by : (b : Bool) → hop_count (cond b (route.Direct x.0.on) (route.Hops (x ∷ []))) ≤ 1
+    by : (b : Bool) → hop_count (cond b (route.Direct x.0.on) (route.Hops ((x.0, 1) ∷ []))) ≤ 1
     by true = omega arith
     by false = omega arith
 target_few (x ∷ y ∷ zs) = omega arith
@@ -301,9 +323,9 @@ module _ (plan : Ports) (applied : TypedRows) (fit : (q : Key) (x : Row) → app
   target_goal [] are h = absurd (let some = are.some in omega (arith, some))
   target_goal (x ∷ []) are h = by (is_zero x.0.ip) h
     where
-      by : (b : Bool) → have_rows applied (route_names (cond b (route.Direct x.0.on) (route.Hops (x ∷ [])))) ≡ true → (g : Goal) × (goal_of plan (cond b (route.Direct x.0.on) (route.Hops (x ∷ []))) ≡ Some g)
+      by : (b : Bool) → have_rows applied (route_names (cond b (route.Direct x.0.on) (route.Hops ((x.0, 1) ∷ [])))) ≡ true → (g : Goal) × (goal_of plan (cond b (route.Direct x.0.on) (route.Hops ((x.0, 1) ∷ []))) ≡ Some g)
       by true h = let b = base_there x.0.on are.all.0 (and_parts (is_some (applied (key.Intf x.0.on))) true h).0 in (goal.Direct b.0, ap (option_map goal.Direct) b.1)
-      by false h = hops_goal (x ∷ []) are.some h
+      by false h = hops_goal ((x.0, 1) ∷ []) (omega arith) h
   target_goal (x ∷ y ∷ zs) are h = hops_goal (x ∷ y ∷ zs) are.some h
 
   route_goal : (t : RouteRow) → IsTarget t → have_rows applied (route_names t) ≡ true → (g : Goal) × (goal_of plan t ≡ Some g)
@@ -324,7 +346,7 @@ module _ (plan : Ports) (applied : TypedRows) (fit : (q : Key) (x : Row) → app
       let one = and_parts (is_some (applied (key.Vlan vlan))) (is_some (applied (key.Port port)) && true) names in
       let two = and_parts (is_some (applied (key.Port port))) true one.1 in
       subst (λ z. Fits plan (key.Member vlan port) (place u z)) (sym x.1) (lane_there port two.0)
-  fits_by (key.Intf n) fields r u on h names = subst (λ z. Fits plan (key.Intf n) (place u z)) (sym (in_router-is (value_of (codes "vrf_name") fields) r h)) tt
+  fits_by (key.Intf n) fields r u on h names = let x = in_router-is (value_of (codes "vrf_name") fields) r h in subst (λ z. Fits plan (key.Intf n) (place u z)) (sym x.1) tt
   fits_by (key.Addr n ip len) fields r u on h names = subst (λ z. Fits plan (key.Addr n ip len) (place u z)) (same_okay row.Addr r h) tt
   fits_by (key.Neigh n ip) fields r u on h names =
       let x = lladdr_row-is (value_of (codes "neigh") fields) r h in

@@ -1,5 +1,5 @@
 -- what a row that reads is, by its key
-use Rattle.std.proofs.Common.{◌≡◌, ℕ, Bool, true, false, cond, List, [], ◌∷◌, Option, None, Some, Result, Ok, Err, codes, refl, sym, ap, ◌∙◌}
+use Rattle.std.proofs.Common.{◌≡◌, ℕ, Bool, true, false, cond, List, Option, None, Some, Result, Ok, Err, codes, refl, sym, ap, ◌∙◌}
 use Rattle.std.proofs.lemmas.Slice.Eq.{bytes_eq-Decides}
 use Rattle.std.specs.Str.{bytes_eq}
 use Rattle.swss_types.specs.Lanes.{lanes_of}
@@ -11,7 +11,7 @@ use Rattle.table_schema.specs.Broken.{bad}
 use Rattle.table_schema.specs.Fields.{Pairs, value_of}
 use Rattle.table_schema.specs.Plan.{Ports, lanes_in_plan}
 use Rattle.table_schema.specs.Rows.{Rows, fields_at}
-use Rattle.table_schema.specs.Rules.{in_router, lladdr_row, mac_row, number_or, planned, port_lanes, port_row_with, row_of, up_of}
+use Rattle.table_schema.specs.Rules.{in_router, intf_in, lladdr_row, mac_row, number_or, planned, port_lanes, port_row_with, row_of, up_of, vrf_of}
 use Rattle.table_schema.specs.declared.key.Key.{Key}
 use Rattle.table_schema.specs.declared.key.Key.TheVariants as key
 use Rattle.table_schema.specs.declared.row.BadRow.{BadRow}
@@ -76,13 +76,16 @@ vlan_read plan vlan r (fields, h) = cc
 pub vrf_read : (plan : Ports) (n : _) (r : Row) → IsRead plan (key.Vrf n) r → r ≡ row.Vrf
 vrf_read plan n r (fields, h) = cc
 
-pub in_router-is : (o : Option (List ℕ)) (r : Row) → in_router o ≡ Ok r → r ≡ row.Intf vrf.Default
-in_router-is None r h = cc
-in_router-is (Some []) r h = cc
-in_router-is (Some (b ∷ bs)) r h = cc
+intf_in-is : (o : Option Vrf) (r : Row) → intf_in o ≡ Ok r → (v : Vrf) × (r ≡ row.Intf v)
+intf_in-is None r h = cc
+intf_in-is (Some v) r h = (v, cc)
+
+pub in_router-is : (o : Option (List ℕ)) (r : Row) → in_router o ≡ Ok r → (v : Vrf) × (r ≡ row.Intf v)
+in_router-is None r h = (vrf.Default, cc)
+in_router-is (Some text) r h = intf_in-is (vrf_of text) r h
 
 pub intf_read : (plan : Ports) (on : _) (r : Row) → IsRead plan (key.Intf on) r → (v : Vrf) × (r ≡ row.Intf v)
-intf_read plan on r (fields, h) = (vrf.Default, in_router-is (value_of (codes "vrf_name") fields) r h)
+intf_read plan on r (fields, h) = in_router-is (value_of (codes "vrf_name") fields) r h
 
 pub mac_row-is : (o : Option Mac) (r : Row) → mac_row o ≡ Ok r → (mac : Mac) × (r ≡ row.Neigh mac)
 mac_row-is None r h = cc

@@ -5,6 +5,7 @@ use Rattle.std.proofs.lemmas.Option.{same_Some}
 use Rattle.swss_types.specs.Prefix.{has_host_bits}
 use Rattle.table_schema.specs.Broken.{bad}
 use Rattle.table_schema.specs.Fields.{Pairs}
+use Rattle.table_schema.specs.KeyText.{route_parts}
 use Rattle.table_schema.specs.Plan.{Ports}
 use Rattle.table_schema.specs.Rules.{other_row}
 use Rattle.table_schema.specs.Split.{split_once}
@@ -55,7 +56,7 @@ none_good plan text (Some fields) = by (split_once 58 text)
 
     by : (parts : Option (List ℕ × List ℕ)) → row_read (other_row parts) ≡ None
     by None = refl
-    by (Some parts) = either (bytes_eq parts.0 (codes "ROUTE_TABLE") && has_host_bits parts.1)
+    by (Some parts) = either (bytes_eq parts.0 (codes "ROUTE_TABLE") && has_host_bits (route_parts parts.1).1)
 
 -- so a key whose good row is another than its applied one reads
 pub differing_reads : (plan : Ports) (s : SwitchState) → IsConsistent plan s.machine → (k : Key) → (option_map bare (s.machine.board.applied k) ≡ good_of plan s.written k → ⊥) → IsReadable k
