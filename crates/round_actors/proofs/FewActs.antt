@@ -12,11 +12,12 @@ use Rattle.table_schema.specs.Fields.{Pairs}
 use Rattle.table_schema.specs.declared.key.Key.{Key}
 use Rattle.table_schema.specs.declared.write.Write.{Write}
 use Rattle.swss_script.specs.Batch.{batch_of, key_in_word, write_before, write_in, writes_of_items}
-use Rattle.swss_script.specs.Built.{is_built}
 use Rattle.swss_script.specs.Fields.{fields_of}
-use Rattle.swss_script.specs.Line.{word_alone, del_line, del_with, forward_to, is_block, is_name, json_line, line_by, line_with, producer_line, script_line_of, set_line, set_with, show_line, show_of, shown}
+use Rattle.swss_types.specs.VrfNames.{vrf_name_of}
+use Rattle.swss_types.specs.declared.vrf.Vrf.TheVariants as vrf
+use Rattle.swss_script.specs.Line.{word_alone, del_line, del_with, forward_in, is_block, is_name, json_line, line_by, line_with, producer_line, script_line_of, set_line, set_with, show_line, show_of, shown}
 use Rattle.swss_script.specs.Lines.{block_of, ends_in, is_end, is_too_long, line_text, lines_in, text_of, with_byte, without_last, without_return}
-use Rattle.swss_script.specs.Script.{add, draft_step, draft_with_line, ended_in, if_built, in_block, in_section, new_draft, producer_named, round_settled, script_at, script_from, script_of, section_begun, step, with_block, with_text}
+use Rattle.swss_script.specs.Script.{draft_step, draft_with_line, ended_in, in_block, in_section, new_draft, producer_named, round_settled, script_at, script_from, script_of, section_begun, step, with_block, with_text}
 use Rattle.swss_script.specs.Words.{behind_word, is_blank, from_word, words_in}
 use Rattle.swss_script.specs.declared.draft.Draft.{Draft}
 use Rattle.swss_script.specs.declared.draft.Place.{Place}
@@ -122,8 +123,9 @@ module _ (n : ℕ) where
   line-show : (words : List (List ℕ)) → IsFewLine n (show_line words)
   line-show [] = tt
   line-show (word ∷ []) = line-shown (show_of word)
-  line-show (word ∷ address ∷ []) = line-shown (forward_to word address)
-  line-show (word ∷ address ∷ third ∷ words) = tt
+  line-show (word ∷ address ∷ []) = line-shown (forward_in word (Some vrf.Default) address)
+  line-show (word ∷ router ∷ address ∷ []) = line-shown (forward_in word (option_map vrf.Named (vrf_name_of router)) address)
+  line-show (word ∷ router ∷ address ∷ other ∷ words) = tt
 
   line-by : (first : List ℕ) (others : List (List ℕ)) (behind : List ℕ) → length behind + 1 ≤ n → IsFewLine n (line_by first others behind)
   line-by first others behind within =
@@ -264,14 +266,6 @@ adds-line n d e Other some few h = cc
 
 -- ---- a line with those behind it
 
-adds-add : (n : ℕ) (d e : Draft) (line : Line) → 0 < n → IsFewLine n line → add d line ≡ Ok e → AddsFew n d e
-adds-add n d e line some few h = adds-line n d e line some few (by (is_built line) (draft_with_line d line) h)
-  where
-    by : (built : Bool) (answer : Result Draft Why) → if_built built answer ≡ Ok e → answer ≡ Ok e
-    by true answer h = h
-    by false (Ok other) h = cc
-    by false (Err reason) h = cc
-
 line-within : (m n : ℕ) (line : Line) → m ≤ n → IsFewLine m line → IsFewLine n line
 line-within m n Blank within few = tt
 line-within m n (Head line) within few = tt
@@ -286,7 +280,7 @@ line-within m n Other within few = tt
 
 -- a block: the batch of its lines
 adds-block : (n : ℕ) (d e : Draft) (rest : List (List ℕ)) → total rest + 1 ≤ n → with_block d rest ≡ Ok e → AddsFew n d e
-adds-block n d e rest within h = by (add d (Batch (option_and_then batch_of (block_of rest)))) (λ f is. adds-add n d f (Batch (option_and_then batch_of (block_of rest))) (omega (arith, within)) (block-few (block_of rest) (block-within rest)) is) h
+adds-block n d e rest within h = by (draft_with_line d (Batch (option_and_then batch_of (block_of rest)))) (λ f is. adds-line n d f (Batch (option_and_then batch_of (block_of rest))) (omega (arith, within)) (block-few (block_of rest) (block-within rest)) is) h
   where
     block-few : (block : Option (List ℕ)) → IsWithin (total rest) block → HasFew n (option_and_then batch_of block)
     block-few None short = tt
@@ -299,9 +293,9 @@ adds-block n d e rest within h = by (add d (Batch (option_and_then batch_of (blo
 adds-with : (n : ℕ) (d e : Draft) (text : List ℕ) (rest : List (List ℕ)) → length text + total rest + 1 ≤ n → with_text d (Some text) rest ≡ Ok e → AddsFew n d e
 adds-with n d e text rest within h = by (is_block (script_line_of text)) h
   where
-    by : (block : Bool) → cond block (with_block d rest) (add d (script_line_of text)) ≡ Ok e → AddsFew n d e
+    by : (block : Bool) → cond block (with_block d rest) (draft_with_line d (script_line_of text)) ≡ Ok e → AddsFew n d e
     by true h = adds-block n d e rest (omega (arith, within)) h
-    by false h = adds-add n d e (script_line_of text) (omega (arith, within)) (line-within (length text + 1) n (script_line_of text) (omega (arith, within)) (line-of text)) h
+    by false h = adds-line n d e (script_line_of text) (omega (arith, within)) (line-within (length text + 1) n (script_line_of text) (omega (arith, within)) (line-of text)) h
 
 adds-text : (n : ℕ) (d e : Draft) (bytes : List ℕ) (rest : List (List ℕ)) → length bytes + total rest + 1 ≤ n → with_text d (text_of bytes) rest ≡ Ok e → AddsFew n d e
 adds-text n d e bytes rest within h = by (is_utf8 bytes) h

@@ -86,7 +86,7 @@ found_other : (rows : Rows) (k j : Key) (fields : Pairs) → is_at (key_cmp j) k
 found_other rows k j fields other = lookup-insert_entry key_cmp key_total rows k fields j ∙ ap (λ b. cond b (Some fields) (fields_at rows j)) other
 
 -- a row that is added beside another one
-with_new_row-put : (o : Option Key) (p : Option Pairs) (rows : Rows) (k : Key) (fields : Pairs) → IsOther k o → with_new_row o p (put_row k fields rows) ≡ option_map (put_row k fields) (with_new_row o p rows)
+with_new_row-put : (o : Option Key) (p : Option Pairs) (rows : Rows) (k : Key) (fields : Pairs) → IsOther k o → with_new_row false o p (put_row k fields rows) ≡ option_map (put_row k fields) (with_new_row false o p rows)
 with_new_row-put None p rows k fields h = refl
 with_new_row-put (Some j) None rows k fields h = refl
 with_new_row-put (Some j) (Some others) rows k fields h =
@@ -103,19 +103,19 @@ then_mapped None f step h = refl
 then_mapped (Some r) f step h = h r
 
 -- members that are added beside a row
-with_members-put : (ms : Members) (rows : Rows) (k : Key) (fields : Pairs) → AreOthers k ms → with_members ms (put_row k fields rows) ≡ option_map (put_row k fields) (with_members ms rows)
+with_members-put : (ms : Members) (rows : Rows) (k : Key) (fields : Pairs) → AreOthers k ms → with_members false ms (put_row k fields rows) ≡ option_map (put_row k fields) (with_members false ms rows)
 with_members-put no_members rows k fields h = refl
 with_members-put (member name d ms) rows k fields h =
-    ap (option_and_then (with_members ms)) (with_new_row-put (key_in_word name) (row_fields d) rows k fields h.0)
-    ∙ then_mapped (with_new_row (key_in_word name) (row_fields d) rows) (with_members ms) (put_row k fields) (λ r. with_members-put ms r k fields h.1)
+    ap (option_and_then (with_members false ms)) (with_new_row-put (key_in_word name) (row_fields d) rows k fields h.0)
+    ∙ then_mapped (with_new_row false (key_in_word name) (row_fields d) rows) (with_members false ms) (put_row k fields) (λ r. with_members-put ms r k fields h.1)
 
 -- a row of a new key
-row_new : (rows : Rows) (k : Key) (fields : Pairs) (o : Option Key) (p : Option Pairs) → o ≡ Some k → p ≡ Some fields → fields_at rows k ≡ None → with_new_row o p rows ≡ Some (put_row k fields rows)
+row_new : (rows : Rows) (k : Key) (fields : Pairs) (o : Option Key) (p : Option Pairs) → o ≡ Some k → p ≡ Some fields → fields_at rows k ≡ None → with_new_row false o p rows ≡ Some (put_row k fields rows)
 row_new rows k fields o p key row none =
-    ap (λ q. with_new_row q p rows) key ∙ ap (λ q. with_new_row (Some k) q rows) row ∙ ap (λ f. cond (is_some f) None (Some (put_row k fields rows))) none
+    ap (λ q. with_new_row false q p rows) key ∙ ap (λ q. with_new_row false (Some k) q rows) row ∙ ap (λ f. cond (is_some f) None (Some (put_row k fields rows))) none
 
 -- a key that is not there is none of those of rows with one more
-new_stays : (o : Option Key) (p : Option Pairs) (rows r : Rows) (k : Key) → with_new_row o p rows ≡ Some r → IsOther k o → fields_at rows k ≡ None → fields_at r k ≡ None
+new_stays : (o : Option Key) (p : Option Pairs) (rows r : Rows) (k : Key) → with_new_row false o p rows ≡ Some r → IsOther k o → fields_at rows k ≡ None → fields_at r k ≡ None
 new_stays None p rows r k is h none = cc
 new_stays (Some j) None rows r k is h none = cc
 new_stays (Some j) (Some others) rows r k is h none = by (is_some (fields_at rows j)) is
@@ -132,22 +132,22 @@ not_itself k j same differ = let yes = at_itself j k (sym same) in cc
 
 -- a member that is put among others is the row that is added to theirs
 pub with_members-one : (ms : Members) (rows : Rows) (k : Key) (fields : Pairs) (name : List ℕ) (d : Data) → key_in_word name ≡ Some k → row_fields d ≡ Some fields → fields_at rows k ≡ None → AreOthers k ms
-    → with_members (put name d ms) rows ≡ option_map (put_row k fields) (with_members ms rows)
-with_members-one no_members rows k fields name d key row none h = ap (option_and_then (with_members no_members)) (row_new rows k fields (key_in_word name) (row_fields d) key row none)
+    → with_members false (put name d ms) rows ≡ option_map (put_row k fields) (with_members false ms rows)
+with_members-one no_members rows k fields name d key row none h = ap (option_and_then (with_members false no_members)) (row_new rows k fields (key_in_word name) (row_fields d) key row none)
 with_members-one (member n e ms) rows k fields name d key row none h =
     by (slice_cmp nat_cmp name n) refl
-    (then_same (with_new_row (key_in_word n) (row_fields e) rows) (with_members (put name d ms)) (with_members ms) (put_row k fields)
+    (then_same (with_new_row false (key_in_word n) (row_fields e) rows) (with_members false (put name d ms)) (with_members false ms) (put_row k fields)
     (λ r is. with_members-one ms r k fields name d key row (new_stays (key_in_word n) (row_fields e) rows r k is h.0 none) h.1))
   where
     by : (r : Ordering) → slice_cmp nat_cmp name n ≡ r
-        → option_and_then (with_members (put name d ms)) (with_new_row (key_in_word n) (row_fields e) rows) ≡ option_map (put_row k fields) (with_members (member n e ms) rows)
-        → with_members (put name d (member n e ms)) rows ≡ option_map (put_row k fields) (with_members (member n e ms) rows)
+        → option_and_then (with_members false (put name d ms)) (with_new_row false (key_in_word n) (row_fields e) rows) ≡ option_map (put_row k fields) (with_members false (member n e ms) rows)
+        → with_members false (put name d (member n e ms)) rows ≡ option_map (put_row k fields) (with_members false (member n e ms) rows)
     by Less is later =
-        ap (λ l. with_members l rows) (put-step name d n e ms Less is)
-        ∙ ap (option_and_then (with_members (member n e ms))) (row_new rows k fields (key_in_word name) (row_fields d) key row none)
+        ap (λ l. with_members false l rows) (put-step name d n e ms Less is)
+        ∙ ap (option_and_then (with_members false (member n e ms))) (row_new rows k fields (key_in_word name) (row_fields d) key row none)
         ∙ with_members-put (member n e ms) rows k fields h
     by Equal is later = absurd (not_itself k k refl (subst (IsOther k) (ap key_in_word (sym (exact_bytes name n is)) ∙ key) h.0))
-    by Greater is later = ap (λ l. with_members l rows) (put-step name d n e ms Greater is) ∙ later
+    by Greater is later = ap (λ l. with_members false l rows) (put-step name d n e ms Greater is) ∙ later
 
 -- one name more that is of another key
 others-put : (k : Key) (name : List ℕ) (d : Data) (ms : Members) → IsOther k (key_in_word name) → AreOthers k ms → AreOthers k (put name d ms)
@@ -166,8 +166,8 @@ new-put ms k d (row ∷ rows) proper less h =
     (others-put row.0 (row_name k) d ms (subst (IsOther row.0) (sym (key_in_word-row_name k proper)) (ap is_eq less.0)) h.0, new-put ms k d rows proper less.1 h.1)
 
 -- rows that are written behind members
-laid-members : (ms : Members) (done rows : Rows) → with_members ms [] ≡ Some done → AreProperKeys (keys_of rows) → HaveFields rows → AreNamed rows → HasRisingRows rows → AreNew ms rows
-    → with_members (with_rows ms rows) [] ≡ Some (fold with_row done rows)
+laid-members : (ms : Members) (done rows : Rows) → with_members false ms [] ≡ Some done → AreProperKeys (keys_of rows) → HaveFields rows → AreNamed rows → HasRisingRows rows → AreNew ms rows
+    → with_members false (with_rows ms rows) [] ≡ Some (fold with_row done rows)
 laid-members ms done [] is proper some named rising new = is
 laid-members ms done (row ∷ rows) is proper some named rising new =
     laid-members (put (row_name row.0) (object (fields_members row.1)) ms) (put_row row.0 row.1 done) rows
@@ -179,7 +179,7 @@ new-none [] = tt
 new-none (row ∷ rows) = (tt, new-none rows)
 
 -- the rows that were written
-pub with_members-rows : (rows : Rows) → AreProperKeys (keys_of rows) → HaveFields rows → AreNamed rows → HasRisingRows rows → with_members (rows_members rows) [] ≡ Some rows
+pub with_members-rows : (rows : Rows) → AreProperKeys (keys_of rows) → HaveFields rows → AreNamed rows → HasRisingRows rows → with_members false (rows_members rows) [] ≡ Some rows
 with_members-rows rows proper some named rising = laid-members no_members [] rows refl proper some named rising (new-none rows) ∙ ap Some (fold-rising rows rising)
 
 -- ---- an image

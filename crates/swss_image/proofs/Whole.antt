@@ -1,5 +1,5 @@
 -- rows with proper keys and a field in each, and one row more
-use Rattle.std.proofs.Common.{◌≡◌, ℕ, ◌<◌, List, [], ◌∷◌, length, Option, Some, None, option_and_then, subst, arith}
+use Rattle.std.proofs.Common.{◌≡◌, ℕ, ◌<◌, List, [], ◌∷◌, length, Option, Some, None, option_and_then, unwrap_or, subst, arith}
 use Rattle.std.specs.BTreeMap.{insert_entry}
 use Rattle.std.specs.Ordering.{match_ordering}
 use Rattle.std.specs.declared.cmp.Ordering.TheVariants.{Less, Equal, Greater}
@@ -8,7 +8,7 @@ use Rattle.serde_json.specs.Find.{as_object}
 use Rattle.table_schema.specs.Fields.{Pairs, by_bytes, merged, with_pair}
 use Rattle.table_schema.specs.Key.{key_cmp}
 use Rattle.table_schema.specs.ProperKey.{IsProperKey}
-use Rattle.table_schema.specs.Rows.{Rows}
+use Rattle.table_schema.specs.Rows.{Rows, fields_at, with_fields}
 use Rattle.table_schema.specs.declared.key.Key.{Key}
 use Rattle.swss_image.specs.Loaded.{row_fields, some_fields}
 use Rattle.swss_image.specs.Saved.{AreWhole}
@@ -37,6 +37,15 @@ some-merged fields (f ∷ others) h = some-merged (with_pair fields f.0 f.1) oth
 -- pairs laid over none, where there is one
 pub some-laid : (f : List ℕ × List ℕ) (fields : Pairs) → 0 < length (merged [] (f ∷ fields))
 some-laid f fields = some-merged (with_pair [] f.0 f.1) fields (some-put [] f.0 f.1)
+
+-- fields laid over others
+pub some-over : (fields others : Pairs) → 0 < length others → 0 < length (merged fields others)
+some-over fields [] some = absurd (omega arith)
+some-over fields (f ∷ others) some = some-merged (with_pair fields f.0 f.1) others (some-put fields f.0 f.1)
+
+-- and laid over those of a row
+pub whole_set : (rows : Rows) (k : Key) (fields : Pairs) → IsProperKey k → 0 < length fields → AreWhole rows → AreWhole (with_fields rows k fields)
+whole_set rows k fields proper some h = let there = unwrap_or (fields_at rows k) [] in whole_put rows k (merged there fields) proper (some-over there fields some) h
 
 some_of : (o : Option Pairs) (fields : Pairs) → Some fields ≡ some_fields o → 0 < length fields
 some_of None fields h = cc

@@ -18,7 +18,7 @@ use swss_types::{OutOfMemory, Text};
 use table_schema::{Fields, Key};
 
 /// The version of the form in which images are written.
-pub(crate) const VERSION: u64 = 1;
+pub(crate) const VERSION: u64 = 2;
 
 /// The text of the image of these rows. Where their keys are proper and each has a field, it is loaded as the same rows.
 pub fn save(alloc: Global, rows: &Rows) -> Result<Vec<u8>, OutOfMemory>

@@ -18,7 +18,7 @@ other_shown e calls others show.Ready text other is = is
 other_shown e calls others show.Calls text other is = absurd cc
 other_shown e calls others show.Counts text other is = is
 other_shown e calls others show.Image text other is = is
-other_shown e calls others (show.Forward ip) text other is = is
+other_shown e calls others (show.Forward v ip) text other is = is
 
 -- shows among which none is one of the calls print the same whatever they are
 pub others_shown : (e : Ended) (calls others : List ℕ) (shows : List Show) (text : List ℕ) → list_any is_calls shows ≡ false → AreShown e calls shows text → AreShown e others shows text

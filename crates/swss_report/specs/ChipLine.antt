@@ -14,7 +14,6 @@ use Rattle.swss_types.specs.declared.vrf.Vrf.{Vrf}
 use Rattle.swss_types.specs.declared.vrf.Vrf.TheVariants as vrf
 use Rattle.table_schema.specs.Plan.{Ports, port_named}
 use Rattle.sai_types.specs.Named.{first_lane}
-use Rattle.sai_types.specs.Names.{thing_kind}
 use Rattle.sai_types.specs.declared.hop.Base.{Base}
 use Rattle.sai_types.specs.declared.hop.Base.TheVariants as base
 use Rattle.sai_types.specs.declared.hop.Hop.{Hop}
@@ -24,7 +23,6 @@ use Rattle.sai_types.specs.declared.thing.Goal.TheVariants as goal
 use Rattle.sai_types.specs.declared.thing.PortThing.{PortThing}
 use Rattle.sai_types.specs.declared.thing.Thing.{Thing}
 use Rattle.sai_types.specs.declared.thing.Thing.TheVariants as thing
-use Rattle.swss_report.specs.Kinds.{has_lines}
 
 abbrev pub port_text : Option ℕ → List ℕ
 port_text None = []
@@ -88,10 +86,6 @@ thing_text plan (thing.Group hops) = codes "GROUP " ++ hops_text plan hops
 thing_text plan (thing.GroupMember hops hop) = codes "GROUP_MEMBER " ++ hops_text plan hops ++ 32 ∷ whop_text plan hop
 thing_text plan (thing.Route v prefix goal) = codes "ROUTE " ++ prefix_text prefix ++ within_text v ++ goal_text plan goal
 
--- whether a thing has a line
-abbrev pub has_line : Thing → Bool
-has_line t = has_lines (thing_kind t)
-
--- the line of a thing, where it has one
+-- the line of a thing
 abbrev pub chip_line : Ports → Thing → List ℕ
-chip_line plan t = if has_line t then thing_text plan t ++ 10 ∷ [] else []
+chip_line plan t = thing_text plan t ++ 10 ∷ []

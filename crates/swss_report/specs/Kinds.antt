@@ -1,5 +1,5 @@
 -- The kinds of objects, as the report names and orders them. Own; the words are those of the SAI object types.
-use Rattle.std.specs.Prelude.{ℕ, Bool, true, false, List, codes}
+use Rattle.std.specs.Prelude.{ℕ, List, codes}
 use Rattle.sai_types.specs.declared.kind.Kind.{Kind}
 use Rattle.sai_types.specs.declared.kind.Kind.TheVariants as kind
 
@@ -16,8 +16,3 @@ kind_name kind.NextHop = codes "NEXT_HOP"
 kind_name kind.Group = codes "GROUP"
 kind_name kind.GroupMember = codes "GROUP_MEMBER"
 kind_name kind.Route = codes "ROUTE"
-
--- whether things of a kind have lines among what stands, and the kind one among the counts: no row makes a virtual router, and none is told of
-abbrev pub has_lines : Kind → Bool
-has_lines kind.VirtualRouter = false
-has_lines _ = true

@@ -1,6 +1,5 @@
 -- What the shows of a round print. Own.
 use Rattle.std.specs.Prelude.{◌≡◌, ℕ, Bool, true, false, List, [], ◌∷◌, ◌++◌}
-use Rattle.swss_types.specs.Packets.{packet_to}
 use Rattle.sai_types.specs.Forwarding.{forward}
 use Rattle.sai_types.specs.Named.{named, those}
 use Rattle.sai_types.specs.declared.thing.Thing.{Thing}
@@ -27,7 +26,7 @@ IsShown e calls show.Warm text = text ≡ warm_line (waits_at_end e.marks)
 IsShown e calls show.Ready text = text ≡ ready_text (waits_at_end e.marks)
 IsShown e calls show.Calls text = text ≡ calls
 IsShown e calls show.Counts text = text ≡ counts_text e
-IsShown e calls (show.Forward ip) text = text ≡ forward_text e.plan ip (answer_of (forward (those (named e.objects)) (packet_to ip)))
+IsShown e calls (show.Forward v ip) text = text ≡ forward_text e.plan v ip (answer_of (forward (those (named e.objects)) (record { vrf = v; to = ip })))
 IsShown e calls show.Image text = text ≡ shown_image e.rows
 
 -- what shows print, one after the other

@@ -1,10 +1,10 @@
 // What stands on the chip, as the report lists it, and what is to stand on it.
-ghost use Rattle.std.specs.Prelude.{◌≡◌, ◌++◌, count_by, flat_map, IfOk, OnOk};
+ghost use Rattle.std.specs.Prelude.{◌≡◌, ◌++◌, flat_map, IfOk, OnOk};
 ghost use Rattle.sai_types.specs.declared.thing.Thing.{Thing};
-ghost use Rattle.swss_report.specs.ChipLine.{chip_line, has_line};
+ghost use Rattle.swss_report.specs.ChipLine.{chip_line};
 ghost use Rattle.swss_report.specs.Chip.{Stand, chip_text, things_text, view_text};
 
-use crate::chip_line::{has_line, write_chip_line};
+use crate::chip_line::write_chip_line;
 use crate::counted::write_count;
 use sai_chip::{SimChip, named};
 use sai_types::Thing;
@@ -21,7 +21,7 @@ pub(crate) fn standing(alloc: Global, chip: &SimChip) -> Result<Vec<Thing>, OutO
     Ok(things)
 }
 
-/// Appends how many things have lines, and these. An Err may leave a part of it.
+/// Appends how many things there are, and their lines. An Err may leave a part of it.
 pub(crate) fn write_chip(
     out: &mut Vec<u8>,
     plan: &PortPlan,
@@ -32,7 +32,7 @@ pub(crate) fn write_chip(
     write_counted(out, b"chip ", plan, things)
 }
 
-/// The lines of what is to stand on the chip: how many things have lines, and these, in the order of the things.
+/// The lines of what is to stand on the chip: how many things there are, and their lines, in the order of the things.
 pub fn view_lines(alloc: Global, plan: &PortPlan, things: &[Thing]) -> Result<Vec<u8>, OutOfMemory>
     ensures { IfOk result (λ lines. lines.items ≡ view_text plan.now things.now) }
 {
@@ -41,7 +41,7 @@ pub fn view_lines(alloc: Global, plan: &PortPlan, things: &[Thing]) -> Result<Ve
     Ok(lines)
 }
 
-/// Appends behind a word how many things have lines, and these.
+/// Appends behind a word how many things there are, and their lines.
 fn write_counted(
     out: &mut Vec<u8>,
     word: &[u8],
@@ -50,15 +50,8 @@ fn write_counted(
 ) -> Result<(), OutOfMemory>
     ensures { OnOk result (out.new.items ≡ out.old.items ++ things_text word.now plan.now things.now) }
 {
-    write_count(out, word, count_lines(things) as u64)?;
+    write_count(out, word, things.len() as u64)?;
     write_things(out, plan, things)
-}
-
-/// How many things have lines.
-fn count_lines(things: &[Thing]) -> usize
-    ensures { result ≡ count_by has_line things.now }
-{
-    things.iter().filter(|thing| has_line(thing)).count()
 }
 
 /// Appends the lines of things.

@@ -1,6 +1,6 @@
 // The line of a thing that stands on the chip.
 ghost use Rattle.std.specs.Prelude.{◌≡◌, ◌∷◌, ◌++◌, flat_map, OnOk};
-ghost use Rattle.swss_report.specs.ChipLine.{base_text, chip_line, goal_text, has_line, hop_text, hops_text, membership_text, port_line, port_text, within_text, thing_text, weight_text, whop_text};
+ghost use Rattle.swss_report.specs.ChipLine.{base_text, chip_line, goal_text, hop_text, hops_text, membership_text, port_line, port_text, within_text, thing_text, weight_text, whop_text};
 ghost use Rattle.swss_types.specs.Tagging.{tagging_text};
 ghost use Rattle.table_schema.specs.Plan.{port_named};
 
@@ -8,24 +8,13 @@ use sai_types::{Base, Goal, Hop, PortThing, Thing, WHop, Weight};
 use swss_types::{IfName, Mac, OutOfMemory, Tagging, Vrf, write_number};
 use table_schema::PortPlan;
 
-/// Appends the line of a thing, with its end, where it has one. Ports go by their names in the plan. An Err may leave a
-/// part of it.
+/// Appends the line of a thing, with its end. Ports go by their names in the plan. An Err may leave a part of it.
 pub fn write_chip_line(out: &mut Vec<u8>, plan: &PortPlan, thing: &Thing) -> Result<(), OutOfMemory>
     ensures { OnOk result (out.new.items ≡ out.old.items ++ chip_line plan.now thing.now) }
 {
-    if !has_line(thing) {
-        return Ok(());
-    }
     write_thing(out, plan, thing)?;
     out.push(b'\n')?;
     Ok(())
-}
-
-/// Whether a thing has a line: a virtual router has none.
-pub(crate) fn has_line(thing: &Thing) -> bool
-    ensures { result ≡ has_line thing.now }
-{
-    !matches!(thing, Thing::VirtualRouter(_))
 }
 
 /// Appends the words of a thing.

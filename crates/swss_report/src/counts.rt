@@ -5,7 +5,7 @@ ghost use Rattle.swss_report.specs.Ended.{ended_round};
 
 use crate::counted::write_count;
 use crate::ending::turns_at_end;
-use crate::kinds::{has_lines, kind_name};
+use crate::kinds::kind_name;
 use crate::round::RoundEnd;
 use sai_chip::SimChip;
 use sai_types::{Chip, Kind};
@@ -61,13 +61,10 @@ fn write_kinds(out: &mut Vec<u8>, chip: &SimChip, kinds: &[Kind]) -> Result<(), 
     Ok(())
 }
 
-/// Appends a kind, how many objects of it stand, and how many have room, where it has a line.
+/// Appends a kind, how many objects of it stand, and how many have room.
 fn write_kind(out: &mut Vec<u8>, chip: &SimChip, kind: Kind) -> Result<(), OutOfMemory>
     ensures { OnOk result (out.new.items ≡ out.old.items ++ kind_line chip.now.objects chip.now.capacities kind) }
 {
-    if !has_lines(kind) {
-        return Ok(());
-    }
     out.extend_from_slice(kind_name(kind))?;
     out.push(b' ')?;
     write_number(out, chip.used(kind))?;

@@ -1,6 +1,6 @@
 // The kinds of objects, as the report names them.
 ghost use Rattle.std.specs.Prelude.{◌≡◌};
-ghost use Rattle.swss_report.specs.Kinds.{has_lines, kind_name};
+ghost use Rattle.swss_report.specs.Kinds.{kind_name};
 
 use sai_types::Kind;
 
@@ -22,11 +22,4 @@ pub(crate) fn kind_name(kind: Kind) -> &'static [u8]
         Kind::GroupMember => b"GROUP_MEMBER",
         Kind::Route => b"ROUTE",
     }
-}
-
-/// Whether things of a kind have lines among what stands, and the kind one among the counts: no row makes a virtual router.
-pub(crate) fn has_lines(kind: Kind) -> bool
-    ensures { result ≡ has_lines kind }
-{
-    !matches!(kind, Kind::VirtualRouter)
 }

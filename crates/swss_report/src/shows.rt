@@ -57,7 +57,7 @@ fn write_show(
             Ok(())
         }
         Show::Counts => write_counts(out, end),
-        Show::Forward(ip) => write_forward(alloc, out, end.plan, end.chip, ip),
+        Show::Forward(vrf, ip) => write_forward(alloc, out, end.plan, end.chip, vrf, ip),
         Show::Image => write_image(alloc, out, end.rows),
     }
 }

@@ -1,10 +1,9 @@
 // Where the packets of an address go, as the report says it.
 ghost use Rattle.std.specs.Prelude.{◌≡◌, ◌++◌, flat_map, OnOk};
-ghost use Rattle.swss_types.specs.Packets.{packet_to};
 ghost use Rattle.sai_types.specs.Forwarding.{forward};
 ghost use Rattle.sai_types.specs.Named.{named, those};
 ghost use Rattle.sai_chip.specs.Forward.{answer_of};
-ghost use Rattle.swss_report.specs.Ways.{answer_text, forward_text, way_text};
+ghost use Rattle.swss_report.specs.Ways.{answer_text, asked_text, forward_text, way_text};
 
 use crate::chip_line::{write_base, write_whop};
 use sai_chip::{Forward, SimChip};
@@ -13,22 +12,38 @@ use std::alloc::Global;
 use swss_types::{Ip, Mac, OutOfMemory, Vrf};
 use table_schema::PortPlan;
 
-/// Appends the line of an address: where the chip sends its packets. An Err may leave a part of it.
+/// Appends the line of an address in a virtual router: where the chip sends its packets. An Err may leave a part of it.
 pub(crate) fn write_forward(
     alloc: Global,
     out: &mut Vec<u8>,
     plan: &PortPlan,
     chip: &SimChip,
+    vrf: &Vrf,
     ip: &Ip,
 ) -> Result<(), OutOfMemory>
-    ensures { OnOk result (out.new.items ≡ out.old.items ++ forward_text plan.now ip.now (answer_of (forward (those (named chip.now.objects)) (packet_to ip.now)))) }
+    ensures { OnOk result (out.new.items ≡ out.old.items ++ forward_text plan.now vrf.now ip.now (answer_of (forward (those (named chip.now.objects)) (record { vrf = vrf.now; to = ip.now })))) }
 {
-    let answer = chip.forward(alloc, Vrf::Default, *ip)?;
+    let answer = chip.forward(alloc, *vrf, *ip)?;
     out.extend_from_slice(b"forward ")?;
+    write_asked(out, vrf)?;
     ip.write(out)?;
     write_answer(out, plan, &answer)?;
     out.push(b'\n')?;
     Ok(())
+}
+
+/// Appends the virtual router that was asked, unless it is the default one.
+fn write_asked(out: &mut Vec<u8>, vrf: &Vrf) -> Result<(), OutOfMemory>
+    ensures { OnOk result (out.new.items ≡ out.old.items ++ asked_text vrf.now) }
+{
+    match vrf {
+        Vrf::Default => Ok(()),
+        Vrf::Named(label) => {
+            label.write(out)?;
+            out.push(b' ')?;
+            Ok(())
+        }
+    }
 }
 
 /// Appends where packets go.

@@ -1,5 +1,5 @@
 -- what holds of each write that the reader makes holds of each write of an accepted script
-use Rattle.std.proofs.Common.{◌≡◌, ℕ, ◌==◌, Bool, true, false, not, cond, List, [], ◌∷◌, ◌++◌, map, codes, bytes_eq, Option, Some, None, option_and_then, if◌then◌else◌, refl, sym, subst, Ok}
+use Rattle.std.proofs.Common.{◌≡◌, option_map, ℕ, ◌==◌, Bool, true, false, not, cond, List, [], ◌∷◌, ◌++◌, map, codes, bytes_eq, Option, Some, None, option_and_then, if◌then◌else◌, refl, sym, subst, Ok}
 use Rattle.std.specs.List.{AllByRecursion, list_any, starts_with}
 use Rattle.std.specs.Str.{is_utf8}
 use Rattle.serde_json.specs.Data.{Data, Items, no_items, item, Members, no_members, member}
@@ -12,7 +12,9 @@ use Rattle.table_schema.specs.declared.write.Write.{Write}
 use Rattle.table_schema.specs.declared.write.Write.TheVariants as write
 use Rattle.swss_script.specs.Batch.{batch_of, key_in_word, texts_in, write_before, write_in, write_with, writes_of_items}
 use Rattle.swss_script.specs.Fields.{fields_of, set_fields}
-use Rattle.swss_script.specs.Line.{word_alone, del_line, del_with, forward_to, is_block, is_name, json_line, line_by, script_line_of, line_with, producer_line, set_line, set_with, show_line, show_of, shown}
+use Rattle.swss_types.specs.VrfNames.{vrf_name_of}
+use Rattle.swss_types.specs.declared.vrf.Vrf.TheVariants as vrf
+use Rattle.swss_script.specs.Line.{word_alone, del_line, del_with, forward_in, is_block, is_name, json_line, line_by, script_line_of, line_with, producer_line, set_line, set_with, show_line, show_of, shown}
 use Rattle.swss_script.specs.Lines.{block_of, is_end, line_text, lines_in}
 use Rattle.swss_script.specs.Script.{script_of}
 use Rattle.swss_script.specs.Sections.{PlacedWrite, line_writes, lines_writes, name_behind, placed, round_behind, script_writes, told, whole_line}
@@ -153,8 +155,9 @@ module _ (P : Write → Type 0) (set : (text : List ℕ) (fields : Pairs) → P 
   line-show : (words : List (List ℕ)) → OfLine (show_line words)
   line-show [] = tt
   line-show (word ∷ []) = line-shown (show_of word)
-  line-show (word ∷ address ∷ []) = line-shown (forward_to word address)
-  line-show (word ∷ address ∷ third ∷ words) = tt
+  line-show (word ∷ address ∷ []) = line-shown (forward_in word (Some vrf.Default) address)
+  line-show (word ∷ router ∷ address ∷ []) = line-shown (forward_in word (option_map vrf.Named (vrf_name_of router)) address)
+  line-show (word ∷ router ∷ address ∷ other ∷ words) = tt
 
   line-by : (first : List ℕ) (others : List (List ℕ)) (behind : List ℕ) → OfLine (line_by first others behind)
   line-by first others behind =

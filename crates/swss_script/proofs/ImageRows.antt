@@ -1,28 +1,30 @@
 -- the rows of an image have keys that were read, and fields
-use Rattle.std.proofs.Common.{◌≡◌, ℕ, ◌<◌, ◌==◌, nat_lt, Bool, true, false, cond, List, [], ◌∷◌, ◌++◌, length, Option, Some, None, Result, Ok, Err, option_and_then, option_map, is_some, codes, bytes_eq, refl, if◌then◌else◌}
+use Rattle.std.proofs.Common.{◌≡◌, ℕ, ◌<◌, ◌==◌, ◌&&◌, nat_lt, Bool, true, false, cond, List, [], ◌∷◌, ◌++◌, length, Option, Some, None, Result, Ok, Err, option_and_then, option_map, is_some, unwrap_or, codes, bytes_eq, refl, if◌then◌else◌}
 use Rattle.std.specs.BTreeMap.{insert_entry}
 use Rattle.std.specs.List.{list_any, starts_with}
 use Rattle.std.specs.Ordering.{match_ordering}
 use Rattle.std.specs.declared.cmp.Ordering.TheVariants.{Less, Equal, Greater}
 use Rattle.serde_json.specs.Data.{Data, Members, no_members, member}
 use Rattle.serde_json.specs.Find.{as_object}
-use Rattle.table_schema.specs.Fields.{Pairs}
+use Rattle.table_schema.specs.Fields.{Pairs, merged}
 use Rattle.table_schema.specs.Key.{key_cmp}
 use Rattle.table_schema.specs.KeyText.{key_of}
 use Rattle.table_schema.specs.ProperKey.{IsReadKey}
-use Rattle.table_schema.specs.Rows.{Rows, fields_at}
+use Rattle.table_schema.specs.Rows.{Rows, fields_at, with_fields}
 use Rattle.table_schema.specs.declared.key.Key.{Key}
 use Rattle.table_schema.proofs.ProperKeys.{IsReadKey-key_of}
-use Rattle.swss_image.specs.Loaded.{are_named, image_of, image_rows, in_form, in_json, in_version, json_of, or_shape, row_fields, rows_in, version_of, with_members, with_new_row}
+use Rattle.swss_image.specs.Loaded.{are_named, image_of, image_rows, in_form, in_json, in_version, is_routed, is_version, json_of, number_in, or_shape, row_fields, rows_in, rows_of_version, version_of, with_members, with_new_row}
 use Rattle.swss_image.specs.Texts.{key_in_word}
 use Rattle.swss_image.specs.declared.fault.ImageFault.{ImageFault}
 use Rattle.swss_image.specs.declared.fault.ImageFault.TheVariants as fault
-use Rattle.swss_image.proofs.Whole.{row_fields_some}
+use Rattle.swss_image.proofs.Whole.{row_fields_some, some-over}
 use Rattle.sai_types.specs.declared.kind.Kind.{Kind}
 use Rattle.swss_types.specs.Number.{number_within}
 use Rattle.swss_script.specs.Batch.{key_in_word as word_key}
 use Rattle.swss_script.specs.Fields.{fields_of}
-use Rattle.swss_script.specs.Line.{chip_with, del_line, del_with, fail_with, forward_to, image_line, is_after, is_name, json_line, kind_of_word, line_by, line_with, producer_line, script_line_of, set_line, set_with, show_line, show_of, shown, word_alone}
+use Rattle.swss_types.specs.VrfNames.{vrf_name_of}
+use Rattle.swss_types.specs.declared.vrf.Vrf.TheVariants as vrf
+use Rattle.swss_script.specs.Line.{chip_with, del_line, del_with, fail_with, forward_in, image_line, is_after, is_name, json_line, kind_of_word, line_by, line_with, producer_line, script_line_of, set_line, set_with, show_line, show_of, shown, word_alone}
 use Rattle.swss_script.specs.Stage.{AreImageRows}
 use Rattle.swss_script.specs.Words.{behind_word, two_words, words_in}
 use Rattle.swss_script.specs.declared.line.HeadLine.{HeadLine}
@@ -63,27 +65,36 @@ loaded-if : (b : Bool) (x y : Option Rows) → AreLoaded x → AreLoaded y → A
 loaded-if true x y p q = p
 loaded-if false x y p q = q
 
-loaded-new : (key : Option Key) (row : Data) (fields : Option Pairs) (rows : Rows) → IsReadWord key → fields ≡ row_fields row → AreImageRows rows → AreLoaded (with_new_row key fields rows)
-loaded-new None row fields rows read is h = tt
-loaded-new (Some key) row None rows read is h = tt
-loaded-new (Some key) row (Some fields) rows read is h = loaded-if (is_some (fields_at rows key)) None (Some (insert_entry key_cmp rows key fields)) tt (image-put rows key fields read (row_fields_some row fields is) h)
+loaded-new : (joins : Bool) (key : Option Key) (row : Data) (fields : Option Pairs) (rows : Rows) → IsReadWord key → fields ≡ row_fields row → AreImageRows rows → AreLoaded (with_new_row joins key fields rows)
+loaded-new joins None row fields rows read is h = tt
+loaded-new joins (Some key) row None rows read is h = tt
+loaded-new joins (Some key) row (Some fields) rows read is h =
+    let some = row_fields_some row fields is in
+    let there = unwrap_or (fields_at rows key) [] in
+    loaded-if (is_some (fields_at rows key)) (cond (joins && is_routed key) (Some (with_fields rows key fields)) None) (Some (insert_entry key_cmp rows key fields))
+    (loaded-if (joins && is_routed key) (Some (with_fields rows key fields)) None (image-put rows key (merged there fields) read (some-over there fields some) h) tt)
+    (image-put rows key fields read some h)
 
-loaded-members : (members : Members) (rows : Rows) → AreImageRows rows → AreLoaded (with_members members rows)
-loaded-members no_members rows h = h
-loaded-members (member name row more) rows h = by (λ next. loaded-members more next) (with_new_row (key_in_word name) (row_fields row) rows) (loaded-new (key_in_word name) row (row_fields row) rows (read-word name) refl h)
+loaded-members : (joins : Bool) (members : Members) (rows : Rows) → AreImageRows rows → AreLoaded (with_members joins members rows)
+loaded-members joins no_members rows h = h
+loaded-members joins (member name row more) rows h = by (λ next. loaded-members joins more next) (with_new_row joins (key_in_word name) (row_fields row) rows) (loaded-new joins (key_in_word name) row (row_fields row) rows (read-word name) refl h)
   where
-    by : ((next : Rows) → AreImageRows next → AreLoaded (with_members more next)) → (with_row : Option Rows) → AreLoaded with_row → AreLoaded (option_and_then (with_members more) with_row)
+    by : ((next : Rows) → AreImageRows next → AreLoaded (with_members joins more next)) → (with_row : Option Rows) → AreLoaded with_row → AreLoaded (option_and_then (with_members joins more) with_row)
     by others None h = tt
     by others (Some next) h = others next h
 
-loaded-in : (members : Option Members) → AreLoaded (option_and_then (λ members. with_members members []) members)
-loaded-in None = tt
-loaded-in (Some members) = loaded-members members [] tt
+loaded-in : (joins : Bool) (members : Option Members) → AreLoaded (option_and_then (λ members. with_members joins members []) members)
+loaded-in joins None = tt
+loaded-in joins (Some members) = loaded-members joins members [] tt
+
+loaded-of : (version : Option ℕ) (rows : Data) → AreLoaded (rows_of_version version rows)
+loaded-of None rows = tt
+loaded-of (Some version) rows = loaded-if (is_version version) (rows_in (version == 1) rows) None (loaded-in (version == 1) (as_object rows)) tt
 
 loaded-rows : (members : Members) → AreLoaded (image_rows members)
 loaded-rows no_members = tt
 loaded-rows (member name rows no_members) = tt
-loaded-rows (member name rows (member other version no_members)) = loaded-if (are_named name other version) (rows_in rows) None (loaded-in (as_object rows)) tt
+loaded-rows (member name rows (member other version no_members)) = loaded-if (are_named name other) (rows_of_version (number_in (Some version)) rows) None (loaded-of (number_in (Some version)) rows) tt
 loaded-rows (member name rows (member other version (member third it more))) = tt
 
 -- ---- images
@@ -105,7 +116,7 @@ loaded-form value = loaded-shape (option_and_then image_rows (as_object value)) 
 
 loaded-version : (version : Option ℕ) (value : Data) → IsLoaded (in_version version value)
 loaded-version None value = loaded-form value
-loaded-version (Some version) value = by (version == 1)
+loaded-version (Some version) value = by (is_version version)
   where
     by : (same : Bool) → IsLoaded (if same then in_form value else Err (fault.BadVersion version))
     by true = loaded-form value
@@ -193,8 +204,9 @@ line-shown (Some what) = tt
 line-show : (words : List (List ℕ)) → HasReadImage (show_line words)
 line-show [] = tt
 line-show (word ∷ []) = line-shown (show_of word)
-line-show (word ∷ address ∷ []) = line-shown (forward_to word address)
-line-show (word ∷ address ∷ third ∷ words) = tt
+line-show (word ∷ address ∷ []) = line-shown (forward_in word (Some vrf.Default) address)
+line-show (word ∷ router ∷ address ∷ []) = line-shown (forward_in word (option_map vrf.Named (vrf_name_of router)) address)
+line-show (word ∷ router ∷ address ∷ other ∷ words) = tt
 
 line-by : (first : List ℕ) (others : List (List ℕ)) (behind : List ℕ) → HasReadImage (line_by first others behind)
 line-by first others behind =

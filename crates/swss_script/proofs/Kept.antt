@@ -1,10 +1,9 @@
 -- a fact of drafts that each line keeps holds to the end of the script
-use Rattle.std.proofs.Common.{◌≡◌, ℕ, ◌+◌, nat_lt, Bool, true, false, cond, not, List, [], ◌∷◌, length, Option, Some, None, option_and_then, Result, Ok, Err, refl, ◌∙◌, subst}
+use Rattle.std.proofs.Common.{◌≡◌, ℕ, ◌+◌, nat_lt, Bool, true, false, cond, not, List, [], ◌∷◌, length, Option, Some, None, option_and_then, Result, Ok, Err, refl, subst}
 use Rattle.swss_script.specs.Batch.{batch_of}
-use Rattle.swss_script.specs.Built.{is_built}
 use Rattle.swss_script.specs.Line.{is_block, script_line_of}
 use Rattle.swss_script.specs.Lines.{block_of, is_end, is_too_long, line_text, lines_in, text_of}
-use Rattle.swss_script.specs.Script.{add, new_draft, if_built, in_block, script_at, script_from, script_of, step, draft_step, with_block, draft_with_line, with_text}
+use Rattle.swss_script.specs.Script.{new_draft, in_block, script_at, script_from, script_of, step, draft_step, with_block, draft_with_line, with_text}
 use Rattle.swss_script.specs.declared.draft.Draft.{Draft}
 use Rattle.swss_script.specs.declared.line.Line.{Line}
 use Rattle.swss_script.specs.declared.line.Line.TheVariants.{Batch}
@@ -15,21 +14,13 @@ use Rattle.swss_script.proofs.PlacedWrites.{accepted, same-script, steps-if}
 use Rattle.swss_script.proofs.Steps.{same-ok}
 
 module _ (P : Draft → Type 0) (by_line : (d e : Draft) (line : Line) → HasReadImage line → draft_with_line d line ≡ Ok e → P d → P e) (in_lines : (d : Draft) (block : Bool) → P d → P (record d { block = block })) where
-  kept-built : (d e : Draft) (line : Line) (built : Bool) → HasReadImage line → (answer : Result Draft Why) → draft_with_line d line ≡ answer → if_built built answer ≡ Ok e → P d → P e
-  kept-built d e line true read answer with h holds = by_line d e line read (with ∙ h) holds
-  kept-built d e line false read (Ok other) with h holds = cc
-  kept-built d e line false read (Err reason) with h holds = cc
-
-  kept-add : (d e : Draft) (line : Line) → HasReadImage line → add d line ≡ Ok e → P d → P e
-  kept-add d e line read h holds = kept-built d e line (is_built line) read (draft_with_line d line) refl h holds
-
   kept-block : (e : Draft) (answer : Result Draft Why) → ((f : Draft) → answer ≡ Ok f → P f) → in_block answer ≡ Ok e → P e
   kept-block e (Ok f) holds h = subst P (same-ok (record f { block = true }) e h) (in_lines f true (holds f refl))
   kept-block e (Err reason) holds h = cc
 
-  kept-with : (d e : Draft) (line : Line) (rest : List (List ℕ)) (block : Bool) → HasReadImage line → cond block (with_block d rest) (add d line) ≡ Ok e → P d → P e
-  kept-with d e line rest true read h holds = kept-block e (add d (Batch (option_and_then batch_of (block_of rest)))) (λ f is. kept-add d f (Batch (option_and_then batch_of (block_of rest))) tt is holds) h
-  kept-with d e line rest false read h holds = kept-add d e line read h holds
+  kept-with : (d e : Draft) (line : Line) (rest : List (List ℕ)) (block : Bool) → HasReadImage line → cond block (with_block d rest) (draft_with_line d line) ≡ Ok e → P d → P e
+  kept-with d e line rest true read h holds = kept-block e (draft_with_line d (Batch (option_and_then batch_of (block_of rest)))) (λ f is. by_line d f (Batch (option_and_then batch_of (block_of rest))) tt is holds) h
+  kept-with d e line rest false read h holds = by_line d e line read h holds
 
   kept-text : (d e : Draft) (text : Option (List ℕ)) (rest : List (List ℕ)) → with_text d text rest ≡ Ok e → P d → P e
   kept-text d e None rest h holds = cc

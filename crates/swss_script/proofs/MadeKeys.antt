@@ -61,7 +61,7 @@ read-base =
 -- ---- routes
 
 read-route : (i state : ℕ) → i < 60000 → IsReadAct (drawn_route i state)
-read-route i state small = read-typed (key.Route vrf.Default (route_prefix i)) (omega (arith, small), omega arith, omega (arith, small))
+read-route i state small = read-typed (key.Route vrf.Default (route_prefix i)) (tt, (omega (arith, small), omega arith, omega (arith, small)))
 
 read-routes : (i state n : ℕ) → i + n ≤ 60000 → AreReadActs (routes_from i state n)
 read-routes i state zero within = tt

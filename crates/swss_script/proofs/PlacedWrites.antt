@@ -13,11 +13,10 @@ use Rattle.table_schema.specs.Rows.{Rows}
 use Rattle.table_schema.specs.declared.plan.PlanWhy.{PlanWhy}
 use Rattle.table_schema.specs.declared.write.Write.{Write}
 use Rattle.swss_script.specs.Batch.{batch_of}
-use Rattle.swss_script.specs.Built.{is_built}
 use Rattle.swss_script.specs.Line.{is_block, script_line_of}
 use Rattle.swss_script.specs.Lines.{block_of, is_end, is_too_long, line_text, lines_in, text_of}
 use Rattle.swss_image.specs.declared.fault.ImageFault.{ImageFault}
-use Rattle.swss_script.specs.Script.{add, new_draft, ended_in, if_built, image_set, in_block, in_head, in_section, producer_named, draft_round_ended, script_at, script_from, script_of, section_begun, round_settled, shown_in, step, draft_step, with_block, with_head, draft_with_line, with_plan, with_text}
+use Rattle.swss_script.specs.Script.{new_draft, ended_in, image_set, in_block, in_head, in_section, producer_named, draft_round_ended, script_at, script_from, script_of, section_begun, round_settled, shown_in, step, draft_step, with_block, with_head, draft_with_line, with_plan, with_text}
 use Rattle.swss_script.specs.Sections.{PlacedWrite, placed, acts_writes, producer_name, sections_writes, rounds_writes, script_writes, whole_line, told, line_writes, round_behind, name_behind, lines_writes, text_writes}
 use Rattle.swss_script.specs.declared.draft.Draft.{Draft}
 use Rattle.swss_script.specs.declared.draft.Place.{Place}
@@ -334,14 +333,6 @@ moves-line names d e (Shown what) tidy script_begins_with h =
     record { tidy = still-tidy d e s tidy; block = s.block; round = still-round d e s; name = ap (current names) s.place; writes = still-writes names d e s }
 moves-line names d e Other tidy script_begins_with h = cc
 
-moves-built : (names : List (List ℕ)) (d e : Draft) (line : Line) (built : Bool) (answer : Result Draft Why) → (answer ≡ Ok e → DraftMoves names d line e) → if_built built answer ≡ Ok e → DraftMoves names d line e
-moves-built names d e line true answer moves h = moves h
-moves-built names d e line false (Ok other) moves h = cc
-moves-built names d e line false (Err reason) moves h = cc
-
-moves-add : (names : List (List ℕ)) (d e : Draft) (line : Line) → IsTidy d.place d.acts → BeginsWith names e → add d line ≡ Ok e → DraftMoves names d line e
-moves-add names d e line tidy script_begins_with h = moves-built names d e line (is_built line) (draft_with_line d line) (moves-line names d e line tidy script_begins_with) h
-
 -- ---- lines one after the other
 
 -- the writes so far, with those of lines
@@ -368,11 +359,11 @@ steps-block names d e line rest (Ok f) script_begins_with moves h =
 steps-block names d e line rest (Err reason) script_begins_with moves h = cc
 
 steps-by : (names : List (List ℕ)) (d e : Draft) (line : Line) (rest : List (List ℕ)) (block : Bool) → IsTidy d.place d.acts → BeginsWith names e → d.block ≡ false
-    → cond block (with_block d rest) (add d line) ≡ Ok e
+    → cond block (with_block d rest) (draft_with_line d line) ≡ Ok e
     → Steps names d (cond block (Batch (option_and_then batch_of (block_of rest))) line ∷ told block rest) e (told e.block rest)
-steps-by names d e line rest true tidy script_begins_with out h = steps-block names d e (Batch (option_and_then batch_of (block_of rest))) rest (add d (Batch (option_and_then batch_of (block_of rest)))) script_begins_with (λ f begins_f is. moves-add names d f (Batch (option_and_then batch_of (block_of rest))) tidy begins_f is) h
+steps-by names d e line rest true tidy script_begins_with out h = steps-block names d e (Batch (option_and_then batch_of (block_of rest))) rest (draft_with_line d (Batch (option_and_then batch_of (block_of rest)))) script_begins_with (λ f begins_f is. moves-line names d f (Batch (option_and_then batch_of (block_of rest))) tidy begins_f is) h
 steps-by names d e line rest false tidy script_begins_with out h =
-    let m = moves-add names d e line tidy script_begins_with h in
+    let m = moves-line names d e line tidy script_begins_with h in
     record { tidy = m.tidy; same = ap (λ b. with_lines names e (told b rest)) (m.block ∙ out) ∙ steps-line names d e line (told false rest) m }
 
 steps-text : (names : List (List ℕ)) (d e : Draft) (bytes : List ℕ) (rest : List (List ℕ)) (utf8 : Bool) → IsTidy d.place d.acts → BeginsWith names e → d.block ≡ false

@@ -6,11 +6,10 @@ use Rattle.table_schema.specs.Plan.{Ports, plan_step}
 use Rattle.table_schema.specs.Rows.{Rows}
 use Rattle.table_schema.specs.declared.plan.PlanWhy.{PlanWhy}
 use Rattle.swss_script.specs.Batch.{batch_of}
-use Rattle.swss_script.specs.Built.{is_built}
 use Rattle.swss_script.specs.Line.{is_block, script_line_of}
 use Rattle.swss_script.specs.Lines.{block_of, is_end, is_too_long, line_text, text_of}
 use Rattle.swss_image.specs.declared.fault.ImageFault.{ImageFault}
-use Rattle.swss_script.specs.Script.{add, ended_in, if_built, image_set, in_block, in_head, in_section, producer_named, section_begun, round_settled, shown_in, step, draft_step, with_block, with_head, draft_with_line, with_plan, with_text}
+use Rattle.swss_script.specs.Script.{ended_in, image_set, in_block, in_head, in_section, producer_named, section_begun, round_settled, shown_in, step, draft_step, with_block, with_head, draft_with_line, with_plan, with_text}
 use Rattle.swss_script.specs.declared.draft.Draft.{Draft}
 use Rattle.swss_script.specs.declared.draft.Place.{Place}
 use Rattle.swss_script.specs.declared.draft.Place.TheVariants as place
@@ -109,21 +108,13 @@ module _ (P : Draft → Type 0) (stays : (d d' : Draft) → AreKept d d' → P d
   holds-line d d' (Shown what) holds h = stays d d' (kept-shown d.place d d' what h) holds
   holds-line d d' Other holds h = cc
 
-  holds-built : (d' : Draft) (built : Bool) (answer : Result Draft Why) → ((e : Draft) → answer ≡ Ok e → P e) → if_built built answer ≡ Ok d' → P d'
-  holds-built d' true answer holds h = holds d' h
-  holds-built d' false (Ok e) holds h = cc
-  holds-built d' false (Err reason) holds h = cc
-
-  holds-add : (d d' : Draft) (line : Line) → P d → add d line ≡ Ok d' → P d'
-  holds-add d d' line holds h = holds-built d' (is_built line) (draft_with_line d line) (λ e is. holds-line d e line holds is) h
-
   holds-block : (d' : Draft) (answer : Result Draft Why) → ((e : Draft) → answer ≡ Ok e → P e) → in_block answer ≡ Ok d' → P d'
   holds-block d' (Ok e) holds h = stays e d' (kept-to e (record e { block = true }) d' refl (same-ok _ _ h)) (holds e refl)
   holds-block d' (Err reason) holds h = cc
 
-  holds-with : (d d' : Draft) (line : Line) (lines : List (List ℕ)) (block : Bool) → P d → cond block (with_block d lines) (add d line) ≡ Ok d' → P d'
-  holds-with d d' line lines true holds h = holds-block d' (add d (Batch (option_and_then batch_of (block_of lines)))) (λ e is. holds-add d e (Batch (option_and_then batch_of (block_of lines))) holds is) h
-  holds-with d d' line lines false holds h = holds-add d d' line holds h
+  holds-with : (d d' : Draft) (line : Line) (lines : List (List ℕ)) (block : Bool) → P d → cond block (with_block d lines) (draft_with_line d line) ≡ Ok d' → P d'
+  holds-with d d' line lines true holds h = holds-block d' (draft_with_line d (Batch (option_and_then batch_of (block_of lines)))) (λ e is. holds-line d e (Batch (option_and_then batch_of (block_of lines))) holds is) h
+  holds-with d d' line lines false holds h = holds-line d d' line holds h
 
   holds-read : (d d' : Draft) (text : Option (List ℕ)) (lines : List (List ℕ)) → P d → with_text d text lines ≡ Ok d' → P d'
   holds-read d d' None lines holds h = cc

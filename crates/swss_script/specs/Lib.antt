@@ -1,5 +1,4 @@
 pub mod Batch
-pub mod Built
 pub mod Fails
 pub mod Fields
 pub mod Generated

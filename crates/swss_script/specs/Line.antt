@@ -4,6 +4,10 @@ use Rattle.std.specs.Char.{is_ascii_alphanumeric}
 use Rattle.std.specs.List.{list_all, starts_with}
 use Rattle.swss_types.specs.Ip.{ip_of}
 use Rattle.swss_types.specs.Number.{number_within}
+use Rattle.swss_types.specs.VrfNames.{vrf_name_of}
+use Rattle.swss_types.specs.declared.address.Ip.{Ip}
+use Rattle.swss_types.specs.declared.vrf.Vrf.{Vrf}
+use Rattle.swss_types.specs.declared.vrf.Vrf.TheVariants as vrf
 use Rattle.sai_types.specs.declared.kind.Kind.{Kind}
 use Rattle.sai_types.specs.declared.kind.Kind.TheVariants as kind
 use Rattle.table_schema.specs.Fields.{Pairs}
@@ -30,6 +34,7 @@ abbrev pub kind_of_word : List ℕ → Option Kind
 kind_of_word word =
     if bytes_eq word (codes "PORT") then Some kind.Port
     else if bytes_eq word (codes "VLAN") then Some kind.Vlan
+    else if bytes_eq word (codes "VIRTUAL_ROUTER") then Some kind.VirtualRouter
     else if bytes_eq word (codes "BRIDGE_PORT") then Some kind.BridgePort
     else if bytes_eq word (codes "VLAN_MEMBER") then Some kind.VlanMember
     else if bytes_eq word (codes "RIF") then Some kind.Rif
@@ -119,9 +124,15 @@ show_of word =
     else if bytes_eq word (codes "image") then Some show.Image
     else None
 
--- where an address is looked up
-abbrev pub forward_to : List ℕ → List ℕ → Option Show
-forward_to word address = if bytes_eq word (codes "forward") then option_map show.Forward (ip_of address) else None
+-- an address that is looked up in a router
+abbrev pub forward_at : Option Vrf → Option Ip → Option Show
+forward_at None ip = None
+forward_at (Some v) None = None
+forward_at (Some v) (Some ip) = Some (show.Forward v ip)
+
+-- where an address is looked up: in this router
+abbrev pub forward_in : List ℕ → Option Vrf → List ℕ → Option Show
+forward_in word v address = if bytes_eq word (codes "forward") then forward_at v (ip_of address) else None
 
 abbrev pub shown : Option Show → Line
 shown None = Other
@@ -130,7 +141,8 @@ shown (Some what) = Shown what
 -- `show WHAT`
 abbrev pub show_line : List (List ℕ) → Line
 show_line (word ∷ []) = shown (show_of word)
-show_line (word ∷ address ∷ []) = shown (forward_to word address)
+show_line (word ∷ address ∷ []) = shown (forward_in word (Some vrf.Default) address)
+show_line (word ∷ router ∷ address ∷ []) = shown (forward_in word (option_map vrf.Named (vrf_name_of router)) address)
 show_line words = Other
 
 -- a line by its first word, the others, and the text behind the first

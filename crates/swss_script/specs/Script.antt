@@ -1,5 +1,5 @@
 -- What the bytes of a script mean: the lines one after the other, each in its place, or the first refusal. Own.
-use Rattle.std.specs.Prelude.{◌≡◌, ℕ, ◌+◌, ◌==◌, nat_lt, Bool, true, false, not, List, [], ◌∷◌, ◌++◌, length, map, slice_index_or, slice_set, Option, Some, None, option_and_then, Result, Ok, Err, bytes_eq, if◌then◌else◌}
+use Rattle.std.specs.Prelude.{◌≡◌, ℕ, ◌+◌, ◌==◌, nat_lt, true, false, not, List, [], ◌∷◌, ◌++◌, length, map, slice_index_or, slice_set, Option, Some, None, option_and_then, Result, Ok, Err, bytes_eq, if◌then◌else◌}
 use Rattle.std.specs.List.{list_any, position}
 use Rattle.sai_types.specs.Objects.{level}
 use Rattle.sai_types.specs.declared.caps.Caps.{Caps}
@@ -9,7 +9,6 @@ use Rattle.table_schema.specs.Rows.{Rows}
 use Rattle.table_schema.specs.declared.plan.PlanWhy.{PlanWhy}
 use Rattle.swss_image.specs.declared.fault.ImageFault.{ImageFault}
 use Rattle.swss_script.specs.Batch.{batch_of}
-use Rattle.swss_script.specs.Built.{is_built}
 use Rattle.swss_script.specs.Line.{is_block, script_line_of}
 use Rattle.swss_script.specs.Lines.{block_of, is_end, is_too_long, line_text, lines_in, text_of}
 use Rattle.swss_script.specs.declared.draft.Draft.{Draft}
@@ -131,14 +130,6 @@ draft_with_line d Settle = Ok (round_settled d)
 draft_with_line d (Shown what) = shown_in d.place d what
 draft_with_line d Other = Err why.BadWord
 
--- a form that the service does not have yet is refused as the last thing
-abbrev pub if_built : Bool → Result Draft Why → Result Draft Why
-if_built false (Ok d) = Err why.NotYet
-if_built _ answer = answer
-
-abbrev pub add : Draft → Line → Result Draft Why
-add d line = if_built (is_built line) (draft_with_line d line)
-
 -- ---- lines one after the other
 
 abbrev pub in_block : Result Draft Why → Result Draft Why
@@ -147,11 +138,11 @@ in_block (Err reason) = Err reason
 
 -- a block: the lines up to its end are the JSON of a batch
 abbrev pub with_block : Draft → List (List ℕ) → Result Draft Why
-with_block d lines = in_block (add d (Batch (option_and_then batch_of (block_of lines))))
+with_block d lines = in_block (draft_with_line d (Batch (option_and_then batch_of (block_of lines))))
 
 -- a line with those behind it
 abbrev pub add_with : Draft → Line → List (List ℕ) → Result Draft Why
-add_with d line lines = if is_block line then with_block d lines else add d line
+add_with d line lines = if is_block line then with_block d lines else draft_with_line d line
 
 abbrev pub with_text : Draft → Option (List ℕ) → List (List ℕ) → Result Draft Why
 with_text d None lines = Err why.NotUtf8

@@ -36,3 +36,8 @@ the_word words = None
 abbrev pub two_words : List (List ℕ) → Option (List ℕ × List ℕ)
 two_words (first ∷ second ∷ []) = Some (first, second)
 two_words words = None
+
+-- the three words of these words, or none where they are fewer or more
+abbrev pub three_words : List (List ℕ) → Option (List ℕ × List ℕ × List ℕ)
+three_words (first ∷ second ∷ third ∷ []) = Some (first, second, third)
+three_words words = None

@@ -1,11 +1,10 @@
 // A script while its lines are read.
 ghost use Rattle.std.specs.Prelude.{◌≡◌, ◌≤◌, [], ◌∷◌, IfOk, OnOk, bytes_eq, length, map};
 ghost use Rattle.std.specs.List.{position};
-ghost use Rattle.swss_script.specs.Script.{Becomes, add, new_draft, ended, in_head, in_section, producer_named, draft_round_ended, script_at, section_begun, section_ended, round_settled, shown_in, with_capacity, with_fail, with_head, with_image, draft_with_line};
+ghost use Rattle.swss_script.specs.Script.{Becomes, new_draft, ended, in_head, in_section, producer_named, draft_round_ended, script_at, section_begun, section_ended, round_settled, shown_in, with_capacity, with_fail, with_head, with_image, draft_with_line};
 ghost use Rattle.swss_script.specs.declared.line.HeadLine.TheVariants as head;
 ghost use Rattle.swss_script.specs.declared.parts.Act.TheVariants as act;
 
-use crate::built::is_built;
 use crate::line::{HeadLine, Line};
 use crate::{
     Act, Acts, Fail2, Fails, Producers, Round, RoundList, Script, Section, Sections, Show, Shows,
@@ -83,20 +82,8 @@ impl Draft {
         })
     }
 
-    /// Adds a line: it must have a form of the service's, in its place.
+    /// Adds a line, which must be in its place.
     pub fn add(&mut self, alloc: Global, line: Line) -> Result<Result<(), Why>, OutOfMemory>
-        requires { length self.old.script.producers ≤ 4 }
-        ensures { IfOk result (λ answer. Becomes (add self.old line) answer self.new) }
-    {
-        let built = is_built(&line);
-        match self.add_line(alloc, line)? {
-            Ok(()) if !built => Ok(Err(Why::NotYet)),
-            answer => Ok(answer),
-        }
-    }
-
-    /// Adds a line in its place, whether or not the service has its form.
-    fn add_line(&mut self, alloc: Global, line: Line) -> Result<Result<(), Why>, OutOfMemory>
         requires { length self.old.script.producers ≤ 4 }
         ensures { IfOk result (λ answer. Becomes (draft_with_line self.old line) answer self.new) }
     {

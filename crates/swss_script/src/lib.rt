@@ -2,7 +2,6 @@
 #![tactic(auto)]
 
 mod batch;
-mod built;
 mod copies;
 mod draft;
 mod draws;

@@ -1,18 +1,20 @@
 // Lines of a script, by their words.
 ghost use Rattle.std.specs.Prelude.{◌≡◌, ◌==◌, ◌++◌, ◌∷◌, false, codes, IfOk, option_map};
 ghost use Rattle.std.specs.List.{starts_with};
-ghost use Rattle.swss_script.specs.Line.{word_alone, chip_head, del_line, fail_line, forward_to, image_line, is_after, is_block, is_name, json_line, kind_of_word, line_by, script_line_of, port_head, producer_line, set_line, show_line, show_of, shown};
+ghost use Rattle.swss_types.specs.VrfNames.{vrf_name_of};
+ghost use Rattle.swss_types.specs.declared.vrf.Vrf.TheVariants as vrf;
+ghost use Rattle.swss_script.specs.Line.{word_alone, chip_head, del_line, fail_line, forward_in, image_line, is_after, is_block, is_name, json_line, kind_of_word, line_by, script_line_of, port_head, producer_line, set_line, show_line, show_of, shown};
 ghost use Rattle.swss_script.specs.Words.{words_in};
 
 use crate::batch::read_batch;
 use crate::fields::{copy_text, read_fields, set_fields};
-use crate::words::{next_word, one_word, two_words};
+use crate::words::{next_word, one_word, three_words, two_words};
 use crate::{Fail2, Show, Writes};
 use row_store::Rows;
 use sai_types::Kind;
 use std::alloc::Global;
 use swss_image::{ImageFault, key_in_word, load};
-use swss_types::{Ip, OutOfMemory, Text, read_number};
+use swss_types::{Ip, OutOfMemory, Text, Vrf, VrfName, read_number};
 use table_schema::Write;
 
 /// The greatest capacity that a script sets.
@@ -137,6 +139,7 @@ fn read_kind(word: &str) -> Option<Kind>
     match word {
         "PORT" => Some(Kind::Port),
         "VLAN" => Some(Kind::Vlan),
+        "VIRTUAL_ROUTER" => Some(Kind::VirtualRouter),
         "BRIDGE_PORT" => Some(Kind::BridgePort),
         "VLAN_MEMBER" => Some(Kind::VlanMember),
         "RIF" => Some(Kind::Rif),
@@ -263,8 +266,11 @@ fn read_show(text: &str) -> Line
     if let Some(word) = one_word(text) {
         return shown(show_of(word));
     }
-    match two_words(text) {
-        Some((word, address)) => shown(forward_to(word, address)),
+    if let Some((word, address)) = two_words(text) {
+        return shown(forward_in(word, Some(Vrf::Default), address));
+    }
+    match three_words(text) {
+        Some((word, router, address)) => shown(forward_in(word, read_router(router), address)),
         None => Line::Other,
     }
 }
@@ -297,13 +303,21 @@ fn show_of(word: &str) -> Option<Show>
     }
 }
 
-/// The way of an address.
-fn forward_to(word: &str, address: &str) -> Option<Show>
-    ensures { result ≡ forward_to word.now address.now }
+/// The virtual router of a name. The default one has none.
+fn read_router(name: &str) -> Option<Vrf>
+    ensures { result ≡ option_map vrf.Named (vrf_name_of name.now) }
 {
-    if word == "forward" {
-        Ip::read(address.as_bytes()).map(Show::Forward)
-    } else {
-        None
+    VrfName::read(name.as_bytes()).map(Vrf::Named)
+}
+
+/// The way of an address in a virtual router.
+fn forward_in(word: &str, vrf: Option<Vrf>, address: &str) -> Option<Show>
+    ensures { result ≡ forward_in word.now vrf address.now }
+{
+    if word != "forward" {
+        return None;
     }
+    let vrf = vrf?;
+    let ip = Ip::read(address.as_bytes())?;
+    Some(Show::Forward(vrf, ip))
 }

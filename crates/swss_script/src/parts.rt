@@ -1,6 +1,6 @@
 // What a script consists of.
 use crate::{Acts, Sections, Shows};
-use swss_types::Ip;
+use swss_types::{Ip, Vrf};
 use table_schema::Write;
 
 /// A chip call that fails.
@@ -60,6 +60,6 @@ pub enum Show {
     Counts,
     /// The image of the rows.
     Image,
-    /// The way of an address.
-    Forward(Ip),
+    /// The way of an address in a virtual router.
+    Forward(Vrf, Ip),
 }

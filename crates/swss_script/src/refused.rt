@@ -27,8 +27,6 @@ pub enum Why {
     BadJson,
     /// A line is none of the language, or not in its place.
     BadWord,
-    /// It has a form that the service does not have yet.
-    NotYet,
 }
 
 /// A script that was refused: the line, counted from 1 and 0 for the script as a whole, and the reason.

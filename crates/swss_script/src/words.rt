@@ -1,7 +1,7 @@
 // Words of a line.
 ghost use Rattle.std.specs.Prelude.{◌≡◌, ◌<◌, not, length, option_map};
 ghost use Rattle.std.specs.List.{position};
-ghost use Rattle.swss_script.specs.Words.{is_blank, IsNextWord, the_word, two_words, words_in};
+ghost use Rattle.swss_script.specs.Words.{is_blank, IsNextWord, the_word, three_words, two_words, words_in};
 
 /// The first word of a text and the text behind it, or None where there is no word. Spaces and tabs separate words.
 pub fn next_word(text: &str) -> Option<(&str, &str)>
@@ -33,6 +33,15 @@ pub fn two_words(text: &str) -> Option<(&str, &str)>
     let (first, behind) = next_word(text)?;
     let second = one_word(behind)?;
     Some((first, second))
+}
+
+/// The three words of a text, or None where it has fewer or more.
+pub fn three_words(text: &str) -> Option<(&str, &str, &str)>
+    ensures { option_map (λ words. (words.0.now, words.1.now, words.2.now)) result ≡ three_words (words_in text.now) }
+{
+    let (first, behind) = next_word(text)?;
+    let (second, third) = two_words(behind)?;
+    Some((first, second, third))
 }
 
 /// The place of the first byte of a word.

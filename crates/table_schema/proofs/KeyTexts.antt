@@ -1,5 +1,5 @@
 -- written keys read as the same keys
-use Rattle.std.proofs.Common.{◌≡◌, ℕ, append_assoc, ◌/◌, ◌%◌, ◌^◌, ◌<◌, ◌≤◌, true, List, [], ◌∷◌, ◌++◌, Some, codes, Contains, inl, inr, refl, ap, ◌∙◌, arith}
+use Rattle.std.proofs.Common.{◌≡◌, ℕ, append_assoc, ◌/◌, ◌%◌, ◌^◌, ◌<◌, ◌≤◌, true, List, [], ◌∷◌, ◌++◌, Some, codes, Contains, option_map, inl, inr, refl, ap, ◌∙◌, arith}
 use Rattle.std.specs.Fmt.{decimal}
 use Rattle.std.specs.Net.Text.{hex_groups_text}
 use Rattle.std.specs.Str.{IsAscii}
@@ -16,16 +16,18 @@ use Rattle.swss_types.specs.declared.address.Family.TheVariants.{V4, V6}
 use Rattle.swss_types.specs.declared.address.Ip.{Ip}
 use Rattle.swss_types.specs.declared.interface.IfName.{IfName}
 use Rattle.swss_types.specs.declared.interface.IfName.TheVariants as name
-use Rattle.swss_types.specs.declared.vrf.Vrf.TheVariants as vrf
+use Rattle.swss_types.specs.VrfNames.{vrf_name_text}
 use Rattle.swss_types.proofs.Decimals.{IsFree-decimal}
 use Rattle.swss_types.proofs.IpTexts.{AllBelow-groups_in, AllSegments-below, ip_of-ip_text}
 use Rattle.swss_types.proofs.Joins.{IsFree}
 use Rattle.swss_types.proofs.Names.{if_name_of-if_name_text}
 use Rattle.swss_types.proofs.PrefixTexts.{interface_address_of-text, prefix_of-prefix_text}
-use Rattle.table_schema.specs.KeyText.{key_of, key_text, key_at, known_key, table_of, or_other, on_switch, vlan_key, port_key}
+use Rattle.swss_types.proofs.VrfNames.{vrf_name_of-vrf_name_text}
+use Rattle.table_schema.specs.KeyText.{key_of, key_text, key_at, known_key, table_of, or_other, on_switch, router_text, key_of_route, vlan_key, port_key}
 use Rattle.table_schema.specs.ProperKey.{HasProperParts, IsProperKey}
 use Rattle.table_schema.specs.declared.key.Key.{Key}
 use Rattle.table_schema.specs.declared.key.Key.TheVariants.{Port, Vlan, Vrf, Member, Intf, Addr, Neigh, Route, Other}
+use Rattle.table_schema.proofs.Routers.{IsAscii-router_text, IsAscii-vrf_name_text, route_parts-written}
 use Rattle.table_schema.proofs.Texts.{IsFree-tested, IsFree-append, split_once-first, split_once-none, Contains-middle, is_ascii, IsAscii-tested}
 
 -- ---- names
@@ -108,7 +110,8 @@ key_of-key_text (Port port) h =
     reads_in (codes "PORT_TABLE") (if_name_text (name.Ethernet port)) (Port port) (IsFree-tested 58 (codes "PORT_TABLE") refl) (ap port_key (if_name_of-if_name_text (name.Ethernet port) h))
 key_of-key_text (Vlan vlan) h =
     reads_in (codes "VLAN_TABLE") (if_name_text (name.Vlan vlan)) (Vlan vlan) (IsFree-tested 58 (codes "VLAN_TABLE") refl) (ap vlan_key (if_name_of-if_name_text (name.Vlan vlan) h))
-key_of-key_text (Vrf n) h = absurd h
+key_of-key_text (Vrf n) h =
+    reads_in (codes "VRF_TABLE") (vrf_name_text n) (Vrf n) (IsFree-tested 58 (codes "VRF_TABLE") refl) (ap (option_map Vrf) (vrf_name_of-vrf_name_text n h))
 key_of-key_text (Member vlan port) h =
     ap key_of (append_assoc (codes "VLAN_MEMBER_TABLE:") (if_name_text (name.Vlan vlan)) (codes ":" ++ if_name_text (name.Ethernet port)))
     ∙ reads_in (codes "VLAN_MEMBER_TABLE") (if_name_text (name.Vlan vlan) ++ 58 ∷ if_name_text (name.Ethernet port)) (Member vlan port) (IsFree-tested 58 (codes "VLAN_MEMBER_TABLE") refl)
@@ -124,9 +127,10 @@ key_of-key_text (Neigh on ip) h =
     ap key_of (append_assoc (codes "NEIGH_TABLE:") (if_name_text on) (codes ":" ++ ip_text ip))
     ∙ reads_in (codes "NEIGH_TABLE") (if_name_text on ++ 58 ∷ ip_text ip) (Neigh on ip) (IsFree-tested 58 (codes "NEIGH_TABLE") refl)
     (rw (split_once-first 58 (if_name_text on) (ip_text ip) (IsFree-if_name_text on h.0.0), if_name_of-if_name_text on h.0.0, h.1, ip_of-ip_text ip h.0.1) refl)
-key_of-key_text (Route (vrf.Named n) prefix) h = absurd h
-key_of-key_text (Route vrf.Default prefix) h =
-    reads_in (codes "ROUTE_TABLE") (prefix_text prefix) (Route vrf.Default prefix) (IsFree-tested 58 (codes "ROUTE_TABLE") refl) (rw (prefix_of-prefix_text prefix h) refl)
+key_of-key_text (Route v prefix) h =
+    ap key_of (append_assoc (codes "ROUTE_TABLE:") (router_text v) (prefix_text prefix))
+    ∙ reads_in (codes "ROUTE_TABLE") (router_text v ++ prefix_text prefix) (Route v prefix) (IsFree-tested 58 (codes "ROUTE_TABLE") refl)
+    (ap key_of_route (route_parts-written v prefix h.0 h.1) ∙ ap (option_map (Route v)) (prefix_of-prefix_text prefix h.1))
 key_of-key_text (Other text) h = absurd h
 
 word_ascii : (word rest : List ℕ) → is_ascii word ≡ true → IsAscii rest → IsAscii (word ++ rest)
@@ -135,7 +139,7 @@ word_ascii word rest w r = IsAscii-append word rest (IsAscii-tested word w) r
 IsAscii-key_text : (k : Key) → IsTyped k → IsAscii (key_text k)
 IsAscii-key_text (Port port) h = word_ascii (codes "PORT_TABLE:") (if_name_text (name.Ethernet port)) refl (IsAscii-if_name_text (name.Ethernet port) h)
 IsAscii-key_text (Vlan vlan) h = word_ascii (codes "VLAN_TABLE:") (if_name_text (name.Vlan vlan)) refl (IsAscii-if_name_text (name.Vlan vlan) h)
-IsAscii-key_text (Vrf n) h = absurd h
+IsAscii-key_text (Vrf n) h = word_ascii (codes "VRF_TABLE:") (vrf_name_text n) refl (IsAscii-vrf_name_text n h)
 IsAscii-key_text (Member vlan port) h =
     IsAscii-append (codes "VLAN_MEMBER_TABLE:" ++ if_name_text (name.Vlan vlan)) (codes ":" ++ if_name_text (name.Ethernet port))
     (word_ascii (codes "VLAN_MEMBER_TABLE:") (if_name_text (name.Vlan vlan)) refl (IsAscii-if_name_text (name.Vlan vlan) h.0))
@@ -150,20 +154,21 @@ IsAscii-key_text (Neigh on ip) h =
     IsAscii-append (codes "NEIGH_TABLE:" ++ if_name_text on) (codes ":" ++ ip_text ip)
     (word_ascii (codes "NEIGH_TABLE:") (if_name_text on) refl (IsAscii-if_name_text on h.0.0))
     (word_ascii (codes ":") (ip_text ip) refl (IsAscii-ip_text ip))
-IsAscii-key_text (Route (vrf.Named n) prefix) h = absurd h
-IsAscii-key_text (Route vrf.Default prefix) h = word_ascii (codes "ROUTE_TABLE:") (prefix_text prefix) refl (IsAscii-interface_address_text prefix.ip prefix.len (len_small prefix.ip.family prefix.len h.1))
+IsAscii-key_text (Route v prefix) h =
+    IsAscii-append (codes "ROUTE_TABLE:" ++ router_text v) (prefix_text prefix)
+    (word_ascii (codes "ROUTE_TABLE:") (router_text v) refl (IsAscii-router_text v h.0))
+    (IsAscii-interface_address_text prefix.ip prefix.len (len_small prefix.ip.family prefix.len h.1.1))
 IsAscii-key_text (Other text) h = absurd h
 
 colon-key_text : (k : Key) → IsTyped k → Contains (key_text k) 58
 colon-key_text (Port port) h = Contains-middle 58 (codes "PORT_TABLE") (if_name_text (name.Ethernet port))
 colon-key_text (Vlan vlan) h = Contains-middle 58 (codes "VLAN_TABLE") (if_name_text (name.Vlan vlan))
-colon-key_text (Vrf n) h = absurd h
+colon-key_text (Vrf n) h = Contains-middle 58 (codes "VRF_TABLE") (vrf_name_text n)
 colon-key_text (Member vlan port) h = Contains-middle 58 (codes "VLAN_MEMBER_TABLE") (if_name_text (name.Vlan vlan) ++ (codes ":" ++ if_name_text (name.Ethernet port)))
 colon-key_text (Intf on) h = Contains-middle 58 (codes "INTF_TABLE") (if_name_text on)
 colon-key_text (Addr on ip len) h = Contains-middle 58 (codes "INTF_TABLE") (if_name_text on ++ (codes ":" ++ interface_address_text ip len))
 colon-key_text (Neigh on ip) h = Contains-middle 58 (codes "NEIGH_TABLE") (if_name_text on ++ (codes ":" ++ ip_text ip))
-colon-key_text (Route (vrf.Named n) prefix) h = absurd h
-colon-key_text (Route vrf.Default prefix) h = Contains-middle 58 (codes "ROUTE_TABLE") (prefix_text prefix)
+colon-key_text (Route v prefix) h = Contains-middle 58 (codes "ROUTE_TABLE") (router_text v ++ prefix_text prefix)
 colon-key_text (Other text) h = absurd h
 
 -- a key of a table with its parts in their ranges is proper

@@ -7,6 +7,7 @@ pub mod LastValues
 pub mod Merges
 pub mod Parts
 pub mod Texts
+pub mod Routers
 pub mod KeyTexts
 pub mod ProperKeys
 pub mod Hops

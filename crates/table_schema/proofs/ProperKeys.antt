@@ -9,13 +9,16 @@ use Rattle.swss_types.specs.declared.address.Ip.{Ip}
 use Rattle.swss_types.specs.declared.address.Prefix.{Prefix}
 use Rattle.swss_types.specs.declared.interface.IfName.{IfName}
 use Rattle.swss_types.specs.declared.interface.IfName.TheVariants as name
-use Rattle.swss_types.specs.declared.vrf.Vrf.TheVariants as vrf
+use Rattle.swss_types.specs.VrfNames.{vrf_name_of, IsProperVrfName}
+use Rattle.swss_types.specs.declared.vrf.Vrf.{Vrf}
+use Rattle.swss_types.specs.declared.vrf.VrfName.{VrfName}
 use Rattle.swss_types.proofs.Proper.{IsProperIfName-if_name_of, IsProperIp-ip_of, IsProper-interface_address_of, IsProperPrefix-prefix_of}
-use Rattle.table_schema.specs.KeyText.{key_of, key_at, known_key, table_of, or_other, on_switch, vlan_key, port_key, member_of, member_key, intf_key, addr_key, neigh_of, neigh_key}
-use Rattle.table_schema.specs.ProperKey.{IsProperKey, IsReadKey}
+use Rattle.swss_types.proofs.VrfNames.{IsProperVrfName-vrf_name_of}
+use Rattle.table_schema.specs.KeyText.{key_of, key_at, known_key, table_of, or_other, on_switch, vlan_key, port_key, member_of, member_key, intf_key, addr_key, neigh_of, neigh_key, in_named, router_before, route_parts}
+use Rattle.table_schema.specs.ProperKey.{IsProperKey, IsProperVrf, IsReadKey}
 use Rattle.table_schema.specs.Split.{split_once}
 use Rattle.table_schema.specs.declared.key.Key.{Key}
-use Rattle.table_schema.specs.declared.key.Key.TheVariants.{Port, Vlan, Member, Intf, Addr, Neigh, Route}
+use Rattle.table_schema.specs.declared.key.Key.TheVariants.{Port, Vlan, Vrf as Router, Member, Intf, Addr, Neigh, Route}
 use Rattle.table_schema.specs.declared.table.Table.{Table}
 use Rattle.table_schema.specs.declared.table.Table.TheVariants as table
 use Rattle.table_schema.proofs.KeyTexts.{IsTyped, IsProperKey-typed}
@@ -77,18 +80,32 @@ typed_neigh_in : (o : Option (List ℕ × List ℕ)) (k : Key) → neigh_key o �
 typed_neigh_in None k h = cc
 typed_neigh_in (Some parts) k h = typed_neigh (on_switch (if_name_of parts.0)) (ip_of parts.1) k (proper_on_switch parts.0) (IsProperIp-ip_of parts.1) h
 
-typed_route : (o : Option Prefix) (k : Key) → ((p : Prefix) → o ≡ Some p → IsProperPrefix p) → option_map (Route vrf.Default) o ≡ Some k → IsTyped k
-typed_route None k proper h = cc
-typed_route (Some p) k proper h = let is : Route vrf.Default p ≡ k = cc in subst IsTyped is (proper p refl)
+typed_vrf : (o : Option VrfName) (k : Key) → ((n : VrfName) → o ≡ Some n → IsProperVrfName n) → option_map Router o ≡ Some k → IsTyped k
+typed_vrf None k proper h = cc
+typed_vrf (Some n) k proper h = let is : Router n ≡ k = cc in subst IsTyped is (proper n refl)
+
+-- the router that a text begins with is proper
+proper_named : (text behind : List ℕ) (o : Option VrfName) → ((n : VrfName) → o ≡ Some n → IsProperVrfName n) → IsProperVrf (in_named text o behind).0
+proper_named text behind None proper = tt
+proper_named text behind (Some n) proper = proper n refl
+
+proper_routed : (text : List ℕ) (o : Option (List ℕ × List ℕ)) → IsProperVrf (router_before text o).0
+proper_routed text None = tt
+proper_routed text (Some parts) = proper_named text parts.1 (vrf_name_of parts.0) (IsProperVrfName-vrf_name_of parts.0)
+
+typed_route : (v : Vrf) (o : Option Prefix) (k : Key) → IsProperVrf v → ((p : Prefix) → o ≡ Some p → IsProperPrefix p) → option_map (Route v) o ≡ Some k → IsTyped k
+typed_route v None k routed proper h = cc
+typed_route v (Some p) k routed proper h = let is : Route v p ≡ k = cc in subst IsTyped is (routed, proper p refl)
 
 typed_at : (t : Option Table) (rest : List ℕ) (k : Key) → key_at t rest ≡ Some k → IsTyped k
 typed_at None rest k h = cc
 typed_at (Some table.Port) rest k h = typed_port (if_name_of rest) k (IsProperIfName-if_name_of rest) h
 typed_at (Some table.Vlan) rest k h = typed_vlan (if_name_of rest) k (IsProperIfName-if_name_of rest) h
+typed_at (Some table.Vrf) rest k h = typed_vrf (vrf_name_of rest) k (IsProperVrfName-vrf_name_of rest) h
 typed_at (Some table.Member) rest k h = typed_member_in (split_once 58 rest) k h
 typed_at (Some table.Intf) rest k h = typed_intf_in rest (split_once 58 rest) k h
 typed_at (Some table.Neigh) rest k h = typed_neigh_in (split_once 58 rest) k h
-typed_at (Some table.Route) rest k h = typed_route (prefix_of rest) k (IsProperPrefix-prefix_of rest) h
+typed_at (Some table.Route) rest k h = let parts = route_parts rest in typed_route parts.0 (prefix_of parts.1) k (proper_routed rest (split_once 58 rest)) (IsProperPrefix-prefix_of parts.1) h
 
 typed_known : (o : Option (List ℕ × List ℕ)) (k : Key) → known_key o ≡ Some k → IsTyped k
 typed_known None k h = cc

@@ -6,9 +6,10 @@ use Rattle.swss_types.specs.Prefix.{interface_address_of, interface_address_text
 use Rattle.swss_types.specs.declared.address.Ip.{Ip}
 use Rattle.swss_types.specs.declared.interface.IfName.{IfName}
 use Rattle.swss_types.specs.declared.interface.IfName.TheVariants as name
-use Rattle.swss_types.specs.VrfNames.{vrf_name_text}
+use Rattle.swss_types.specs.VrfNames.{vrf_name_of, vrf_name_text}
 use Rattle.swss_types.specs.declared.vrf.Vrf.{Vrf}
 use Rattle.swss_types.specs.declared.vrf.Vrf.TheVariants as vrf
+use Rattle.swss_types.specs.declared.vrf.VrfName.{VrfName}
 use Rattle.table_schema.specs.Split.{split_once}
 use Rattle.table_schema.specs.declared.key.Key.{Key}
 use Rattle.table_schema.specs.declared.key.Key.TheVariants as key
@@ -20,6 +21,7 @@ abbrev pub table_of : List ℕ → Option Table
 table_of text =
     if bytes_eq text (codes "PORT_TABLE") then Some table.Port
     else if bytes_eq text (codes "VLAN_TABLE") then Some table.Vlan
+    else if bytes_eq text (codes "VRF_TABLE") then Some table.Vrf
     else if bytes_eq text (codes "VLAN_MEMBER_TABLE") then Some table.Member
     else if bytes_eq text (codes "INTF_TABLE") then Some table.Intf
     else if bytes_eq text (codes "NEIGH_TABLE") then Some table.Neigh
@@ -79,14 +81,32 @@ abbrev pub neigh_key : Option (List ℕ × List ℕ) → Option Key
 neigh_key None = None
 neigh_key (Some parts) = neigh_of (on_switch (if_name_of parts.0)) (ip_of parts.1)
 
--- the key of a table, of which that of virtual routers is not read yet, nor a route's router, whose text behind the table's name this is
+-- a router whose name stands before a colon, and what stands behind it; without such a name all of the text is in the default router
+abbrev pub in_named : List ℕ → Option VrfName → List ℕ → Vrf × List ℕ
+in_named text None behind = (vrf.Default, text)
+in_named text (Some n) behind = (vrf.Named n, behind)
+
+abbrev pub router_before : List ℕ → Option (List ℕ × List ℕ) → Vrf × List ℕ
+router_before text None = (vrf.Default, text)
+router_before text (Some parts) = in_named text (vrf_name_of parts.0) parts.1
+
+-- the router that the text of a route begins with, and the text of its prefix
+abbrev pub route_parts : List ℕ → Vrf × List ℕ
+route_parts text = router_before text (split_once 58 text)
+
+-- ROUTE_TABLE: a prefix, or a router's name, `:` and a prefix
+abbrev pub key_of_route : Vrf × List ℕ → Option Key
+key_of_route parts = option_map (key.Route parts.0) (prefix_of parts.1)
+
+-- the key of a table whose text behind the table's name this is
 abbrev pub key_in : Table → List ℕ → Option Key
 key_in table.Port rest = port_key (if_name_of rest)
 key_in table.Vlan rest = vlan_key (if_name_of rest)
+key_in table.Vrf rest = option_map key.Vrf (vrf_name_of rest)
 key_in table.Member rest = member_key (split_once 58 rest)
 key_in table.Intf rest = intf_key rest (split_once 58 rest)
 key_in table.Neigh rest = neigh_key (split_once 58 rest)
-key_in table.Route rest = option_map (key.Route vrf.Default) (prefix_of rest)
+key_in table.Route rest = key_of_route (route_parts rest)
 
 abbrev pub key_at : Option Table → List ℕ → Option Key
 key_at None rest = None

@@ -1,8 +1,11 @@
 -- The rules by which a route's row reads (SWSS schema; the order of the rules is own).
-use Rattle.std.specs.Prelude.{ℕ, ◌==◌, ◌&&◌, ◌||◌, nat_lt, nat_le, Bool, true, false, List, [], ◌∷◌, length, Option, Some, None, Result, Ok, codes, bytes_eq, if◌then◌else◌}
+use denote.Ref.{Bor}
+use Rattle.std.specs.Prelude.{ℕ, ◌==◌, ◌&&◌, ◌||◌, nat_lt, nat_le, Bool, true, false, List, [], ◌∷◌, length, unwrap_or, Option, Some, None, Result, Ok, codes, bytes_eq, if◌then◌else◌}
 use Rattle.swss_types.specs.Interface.{if_name_of}
 use Rattle.swss_types.specs.Ip.{ip_of}
+use Rattle.swss_types.specs.Number.{number_within}
 use Rattle.swss_types.specs.Parts.{parts_at}
+use Rattle.swss_types.specs.VrfNames.{first_part}
 use Rattle.swss_types.specs.declared.address.Ip.{Ip}
 use Rattle.swss_types.specs.declared.interface.IfName.{IfName}
 use Rattle.table_schema.specs.Broken.{bad, and_then}
@@ -70,43 +73,69 @@ hop_or_why several (Some on) ip = hop_at several on ip
 abbrev pub hop_of_texts : Bool → List ℕ → List ℕ → Result RowHop BadRow
 hop_of_texts several ip on = hop_or_why several (on_switch (if_name_of on)) (ip_of ip)
 
--- hops put among others, each once and rising; each has the weight 1, since no weight is read yet
-abbrev pub hops_with : Bool → List (RowHop × ℕ) → List (List ℕ) → List (List ℕ) → Result (List (RowHop × ℕ)) BadRow
-hops_with several hops [] names = Ok hops
-hops_with several hops (ip ∷ ips) [] = Ok hops
-hops_with several hops (ip ∷ ips) (on ∷ names) = and_then (hop_of_texts several ip on) (λ hop. hops_with several (put_row_hop hops hop 1) ips names)
+-- a hop's weight: 1 where nothing is said of it
+abbrev pub weight_within : Option ℕ → Result ℕ BadRow
+weight_within None = bad BadValue 15
+weight_within (Some weight) = if nat_lt 0 weight then Ok weight else bad BadValue 15
 
--- as many addresses as names, no more than a route may have, and a hop at each pair
-abbrev pub hops_of_texts : List (List ℕ) → List (List ℕ) → Result (List (RowHop × ℕ)) BadRow
-hops_of_texts ips names =
-    if length ips == length names
-    then (if nat_le (length ips) MOST_HOPS then hops_with (nat_lt 1 (length ips)) [] ips names else bad TooManyHops 7)
-    else bad CountsDiffer 8
+abbrev pub weight_of : List ℕ → Result ℕ BadRow
+weight_of [] = Ok 1
+weight_of (b ∷ bs) = weight_within (number_within 255 (b ∷ bs))
 
--- as many addresses as names, no more than a route may have
-abbrev pub counts_of : ℕ → ℕ → Result (Unit {0}) BadRow
-counts_of ips names =
+-- the elements of what is left of a list
+abbrev pub parts_left : Option (Bor (List ℕ)) → List (List ℕ)
+parts_left None = []
+parts_left (Some text) = parts_at 44 text.now
+
+-- the elements behind the first
+abbrev pub other_parts : List (List ℕ) → List (List ℕ)
+other_parts [] = []
+other_parts (part ∷ parts) = parts
+
+-- a hop and its weight
+abbrev pub weighted_hop : Bool → List ℕ → List ℕ → List ℕ → Result (RowHop × ℕ) BadRow
+weighted_hop several ip on weight = and_then (hop_of_texts several ip on) (λ hop. and_then (weight_of weight) (λ weight. Ok (hop, weight)))
+
+-- hops put among others, each once and rising, with the greatest of its weights; of a hop for which no weight is left none is said
+abbrev pub hops_with : Bool → List (RowHop × ℕ) → List (List ℕ) → List (List ℕ) → List (List ℕ) → Result (List (RowHop × ℕ)) BadRow
+hops_with several hops [] names weights = Ok hops
+hops_with several hops (ip ∷ ips) [] weights = Ok hops
+hops_with several hops (ip ∷ ips) (on ∷ names) weights =
+    and_then (weighted_hop several ip on (first_part weights)) (λ hop. hops_with several (put_row_hop hops hop.0 hop.1) ips names (other_parts weights))
+
+-- a list of weights has as many elements as that of addresses, unless it is empty
+abbrev pub are_weights_of : List ℕ → ℕ → Bool
+are_weights_of [] count = true
+are_weights_of (b ∷ bs) count = length (parts_at 44 (b ∷ bs)) == count
+
+-- as many addresses as names and weights, no more than a route may have
+abbrev pub counts_of : ℕ → ℕ → List ℕ → Result (Unit {0}) BadRow
+counts_of ips names weights =
     if ips == names
-    then (if nat_le ips MOST_HOPS then Ok tt else bad TooManyHops 7)
+    then (if are_weights_of weights ips then (if nat_le ips MOST_HOPS then Ok tt else bad TooManyHops 7) else bad CountsDiffer 15)
     else bad CountsDiffer 8
 
--- one hop with a zero address is the interface itself
+-- a hop at each pair of an address and a name
+abbrev pub hops_of_texts : List (List ℕ) → List (List ℕ) → List ℕ → Result (List (RowHop × ℕ)) BadRow
+hops_of_texts ips names weights = and_then (counts_of (length ips) (length names) weights) (λ _. hops_with (nat_lt 1 (length ips)) [] ips names (parts_at 44 weights))
+
+-- one hop with a zero address is the interface itself, and any other hop alone has the weight 1
 abbrev pub target_of_hops : List (RowHop × ℕ) → RouteRow
 target_of_hops [] = route.Hops []
-target_of_hops (hop ∷ []) = if is_zero hop.0.ip then route.Direct hop.0.on else route.Hops (hop ∷ [])
+target_of_hops (hop ∷ []) = if is_zero hop.0.ip then route.Direct hop.0.on else route.Hops ((hop.0, 1) ∷ [])
 target_of_hops (hop ∷ other ∷ others) = route.Hops (hop ∷ other ∷ others)
 
--- the hops that a list of addresses and a list of names write
-abbrev pub hops_listed : Option (List ℕ) → Option (List ℕ) → Result RouteRow BadRow
-hops_listed ips names =
+-- the hops that a list of addresses and a list of names write, with a list of weights
+abbrev pub hops_listed : Option (List ℕ) → Option (List ℕ) → Option (List ℕ) → Result RouteRow BadRow
+hops_listed ips names weights =
     and_then (field_filled 7 ips) (λ ips.
     and_then (field_filled 8 names) (λ names.
-    and_then (hops_of_texts (parts_at 44 ips) (parts_at 44 names)) (λ hops.
+    and_then (hops_of_texts (parts_at 44 ips) (parts_at 44 names) (unwrap_or weights [])) (λ hops.
     Ok (target_of_hops hops))))
 
 -- the hops of a route that drops nothing
 abbrev pub route_hops_of : Pairs → Result RouteRow BadRow
-route_hops_of fields = hops_listed (value_of (codes "nexthop") fields) (value_of (codes "ifname") fields)
+route_hops_of fields = hops_listed (value_of (codes "nexthop") fields) (value_of (codes "ifname") fields) (value_of (codes "weight") fields)
 
 abbrev pub route_target : Bool → Pairs → Result RouteRow BadRow
 route_target true fields = Ok route.Drop

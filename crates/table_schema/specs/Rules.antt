@@ -1,5 +1,5 @@
 -- The rules by which a row reads (SWSS schema; the order of the rules is own).
-use Rattle.std.specs.Prelude.{ℕ, nat_le, Bool, true, false, List, [], ◌∷◌, Option, Some, None, Result, Ok, codes, bytes_eq, ◌&&◌, if◌then◌else◌}
+use Rattle.std.specs.Prelude.{ℕ, nat_le, Bool, true, false, List, [], Option, Some, None, Result, Ok, codes, bytes_eq, ◌&&◌, ◌||◌, option_map, if◌then◌else◌}
 use Rattle.swss_types.specs.Lanes.{lanes_of}
 use Rattle.swss_types.specs.Mac.{mac_of}
 use Rattle.swss_types.specs.Number.{number_within}
@@ -8,9 +8,12 @@ use Rattle.swss_types.specs.Tagging.{tagging_of}
 use Rattle.swss_types.specs.declared.address.Mac.{Mac}
 use Rattle.swss_types.specs.declared.tagging.Tagging.{Tagging}
 use Rattle.swss_types.specs.declared.tagging.Tagging.TheVariants.{Untagged}
+use Rattle.swss_types.specs.VrfNames.{vrf_name_of}
+use Rattle.swss_types.specs.declared.vrf.Vrf.{Vrf}
 use Rattle.swss_types.specs.declared.vrf.Vrf.TheVariants as vrf
 use Rattle.table_schema.specs.Broken.{bad, and_then}
 use Rattle.table_schema.specs.Fields.{Pairs, value_of}
+use Rattle.table_schema.specs.KeyText.{route_parts}
 use Rattle.table_schema.specs.Plan.{Ports, lanes_in_plan}
 use Rattle.table_schema.specs.RouteRules.{route_row_of}
 use Rattle.table_schema.specs.Split.{split_once}
@@ -58,11 +61,18 @@ port_row_with lanes fields =
 abbrev pub port_row_of : Ports → ℕ → Pairs → Result Row BadRow
 port_row_of plan port fields = and_then (port_lanes (lanes_in_plan plan port) (value_of (codes "lanes") fields)) (λ lanes. port_row_with lanes fields)
 
--- an interface's row: so far none but the default virtual router is read, which its addresses are in too
+-- the router that a word names, where none and `default` name the default one
+abbrev pub vrf_of : List ℕ → Option Vrf
+vrf_of text = if bytes_eq text [] || bytes_eq text (codes "default") then Some vrf.Default else option_map vrf.Named (vrf_name_of text)
+
+abbrev pub intf_in : Option Vrf → Result Row BadRow
+intf_in None = bad Unsupported 16
+intf_in (Some v) = Ok (row.Intf v)
+
+-- an interface is in the router that its row names, and in the default one where it names none
 abbrev pub in_router : Option (List ℕ) → Result Row BadRow
 in_router None = Ok (row.Intf vrf.Default)
-in_router (Some []) = Ok (row.Intf vrf.Default)
-in_router (Some (b ∷ bs)) = bad Unsupported 16
+in_router (Some text) = intf_in (vrf_of text)
 
 abbrev pub intf_row_of : Pairs → Result Row BadRow
 intf_row_of fields = in_router (value_of (codes "vrf_name") fields)
@@ -91,10 +101,10 @@ lladdr_row (Some text) = mac_row (mac_of text)
 abbrev pub neigh_row_of : Pairs → Result Row BadRow
 neigh_row_of fields = lladdr_row (value_of (codes "neigh") fields)
 
--- a key that does not read: a prefix with host bits, or what the service does not have
+-- a key that does not read: a route whose prefix has host bits, or what the service does not have
 abbrev pub other_row : Option (List ℕ × List ℕ) → Result Row BadRow
 other_row None = bad Unsupported 0
-other_row (Some parts) = if bytes_eq parts.0 (codes "ROUTE_TABLE") && has_host_bits parts.1 then bad HostBits 0 else bad Unsupported 0
+other_row (Some parts) = if bytes_eq parts.0 (codes "ROUTE_TABLE") && has_host_bits (route_parts parts.1).1 then bad HostBits 0 else bad Unsupported 0
 
 -- the row of a key, or the first rule that it breaks
 abbrev pub row_of : Ports → Key → Pairs → Result Row BadRow

@@ -30,5 +30,7 @@ pub const VNI_LABEL: u8 = 12;
 pub const ROUTER_MAC: u8 = 13;
 /// The segments of SRv6.
 pub const SEGMENT: u8 = 14;
+/// The weights of a route's hops.
+pub const WEIGHT: u8 = 15;
 /// The virtual router of an interface.
 pub const VRF_NAME: u8 = 16;

@@ -1,7 +1,7 @@
 // Keys as they are read and written.
 ghost use Rattle.std.specs.Prelude.{◌≡◌, ◌++◌, ◌↔◌, codes, IfOk, IsTrue, OnOk, OnErr, Contains, length, option_map, take};
 ghost use Rattle.std.specs.Str.{IsUtf8};
-ghost use Rattle.table_schema.specs.KeyText.{addr_key, intf_key, key_in, key_of, key_text, known_key, member_key, neigh_key, on_switch, port_key, router_text, table_of, vlan_key};
+ghost use Rattle.table_schema.specs.KeyText.{addr_key, intf_key, key_in, key_of, key_text, known_key, member_key, neigh_key, on_switch, port_key, key_of_route, route_parts, router_text, table_of, vlan_key};
 ghost use Rattle.table_schema.specs.ProperKey.{IsProperKey};
 ghost use Rattle.table_schema.specs.Split.{split_once};
 ghost use Rattle.swss_types.specs.Interface.{if_name_of, if_name_text};
@@ -58,6 +58,8 @@ fn read_table(name: &[u8]) -> Option<Table>
         Some(Table::Port)
     } else if name == b"VLAN_TABLE".as_slice() {
         Some(Table::Vlan)
+    } else if name == b"VRF_TABLE".as_slice() {
+        Some(Table::Vrf)
     } else if name == b"VLAN_MEMBER_TABLE".as_slice() {
         Some(Table::Member)
     } else if name == b"INTF_TABLE".as_slice() {
@@ -78,10 +80,11 @@ fn read_key_in(table: Table, rest: &[u8]) -> Option<Key>
     match table {
         Table::Port => read_port(rest).map(Key::Port),
         Table::Vlan => read_vlan(rest).map(Key::Vlan),
+        Table::Vrf => VrfName::read(rest).map(Key::Vrf),
         Table::Member => read_member(rest),
         Table::Intf => read_intf(rest),
         Table::Neigh => read_neigh(rest),
-        Table::Route => Some(Key::Route(Vrf::Default, Prefix::read(rest)?)),
+        Table::Route => read_route(rest),
     }
 }
 
@@ -149,6 +152,28 @@ pub fn read_on_switch(text: &[u8]) -> Option<IfName>
     match IfName::read(text)? {
         IfName::Loopback(_) => None,
         on => Some(on),
+    }
+}
+
+/// The key of a route's row.
+fn read_route(rest: &[u8]) -> Option<Key>
+    ensures { result ≡ key_of_route (route_parts rest.now) }
+{
+    let (vrf, prefix) = split_router(rest);
+    Some(Key::Route(vrf, Prefix::read(prefix)?))
+}
+
+/// The virtual router that the text of a route begins with, and the text of its prefix. Without a router's name before a
+/// colon it is the default one.
+pub(crate) fn split_router(text: &[u8]) -> (Vrf, &[u8])
+    ensures { (result.0, result.1.now) ≡ route_parts text.now }
+{
+    let Some((name, behind)) = split_once(text, b':') else {
+        return (Vrf::Default, text);
+    };
+    match VrfName::read(name) {
+        Some(name) => (Vrf::Named(name), behind),
+        None => (Vrf::Default, text),
     }
 }
 

@@ -2,16 +2,19 @@
 ghost use Rattle.std.specs.Prelude.{◌≡◌, IfOk, codes, option_map};
 ghost use Rattle.table_schema.specs.Fields.{value_of};
 ghost use Rattle.table_schema.specs.Plan.{lanes_in_plan};
-ghost use Rattle.table_schema.specs.Rules.{intf_row_of, member_row_of, neigh_row_of, number_or, other_row, port_lanes, port_row_of, port_row_with, row_of, up_of};
+ghost use Rattle.table_schema.specs.Rules.{intf_row_of, member_row_of, neigh_row_of, number_or, other_row, port_lanes, port_row_of, port_row_with, row_of, up_of, vrf_of};
 ghost use Rattle.table_schema.specs.Split.{split_once};
 
 use crate::broken::bad;
+use crate::key_text::split_router;
 use crate::route_rules::read_route;
 use crate::row::BadWhy::{BadValue, HostBits, LanesDiffer, MissingField, Unsupported};
 use crate::split::split_once;
 use crate::{BadRow, Fields, Key, PortPlan, PortRow, Row, field};
 use std::alloc::Global;
-use swss_types::{Lanes, Mac, OutOfMemory, Tagging, Text, Vrf, has_host_bits, read_number};
+use swss_types::{
+    Lanes, Mac, OutOfMemory, Tagging, Text, Vrf, VrfName, has_host_bits, read_number,
+};
 
 /// The row of a key, or the first rule that it breaks (docs/FORMATS.md has the rules in their order).
 pub fn read_row(
@@ -136,10 +139,23 @@ fn read_member(fields: &Fields) -> Result<Row, BadRow>
 fn read_intf(fields: &Fields) -> Result<Row, BadRow>
     ensures { result ≡ intf_row_of fields.now }
 {
-    match fields.get(b"vrf_name") {
-        Some(name) if !name.bytes().is_empty() => Err(bad(Unsupported, field::VRF_NAME)),
-        _ => Ok(Row::Intf(Vrf::Default)),
+    let Some(text) = fields.get(b"vrf_name") else {
+        return Ok(Row::Intf(Vrf::Default));
+    };
+    match read_vrf(text.bytes()) {
+        Some(vrf) => Ok(Row::Intf(vrf)),
+        None => Err(bad(Unsupported, field::VRF_NAME)),
     }
+}
+
+/// The virtual router that a word names: an empty word and `default` name the default one.
+fn read_vrf(text: &[u8]) -> Option<Vrf>
+    ensures { result ≡ vrf_of text.now }
+{
+    if text.is_empty() || text == b"default".as_slice() {
+        return Some(Vrf::Default);
+    }
+    VrfName::read(text).map(Vrf::Named)
 }
 
 /// A neighbour's row.
@@ -160,7 +176,8 @@ fn read_other(text: &[u8]) -> Result<Row, BadRow>
     ensures { result ≡ other_row (split_once 58 text.now) }
 {
     let why = match split_once(text, b':') {
-        Some((table, rest)) if table == b"ROUTE_TABLE".as_slice() && has_host_bits(rest) =>
+        Some((table, rest))
+            if table == b"ROUTE_TABLE".as_slice() && has_host_bits(split_router(rest).1) =>
             HostBits,
         _ => Unsupported,
     };

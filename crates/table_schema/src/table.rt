@@ -7,6 +7,8 @@ pub enum Table {
     Port,
     /// VLAN_TABLE.
     Vlan,
+    /// VRF_TABLE.
+    Vrf,
     /// VLAN_MEMBER_TABLE.
     Member,
     /// INTF_TABLE.

@@ -1,7 +1,7 @@
 use Rattle.std.proofs.Common.{◌≡◌}
 use Rattle.swss_types.specs.Parts.{parts_at}
-use Rattle.table_schema.specs.RouteRules.{are_blank}
-use Rattle.table_schema.proofs.Parts.{parts_left, left_len}
+use Rattle.table_schema.specs.RouteRules.{are_blank, parts_left}
+use Rattle.table_schema.proofs.Parts.{left_len}
 use Rattle.table_schema.proofs.route_rules.are_blank.Given as goal
 
 -- the parts that are left say whether all are blank
