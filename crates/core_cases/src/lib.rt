@@ -19,8 +19,7 @@
 //! workers N drawn SEED STEPS       STEPS draws in each round, each of which is the next write or the step of a worker
 //! ```
 //!
-//! A KEY is one that the tables read, or `VRF_TABLE:NAME`, or `ROUTE_TABLE:NAME:PREFIX` with the name of a virtual router. KIND, WHY and
-//! WAY are those of cases of the kind `chip`.
+//! A KEY is one that the tables read. KIND, WHY and WAY are those of cases of the kind `chip`.
 //!
 //! A case is run once without workers: in each round all writes are taken, and
 //! the core settles. Then it is run once for each of its `workers` lines, each time with a new core over an empty chip. In `turn` all

@@ -9,7 +9,7 @@ use anyhow::{Context, Result, bail, ensure};
 use orch_core::{Settled, Step};
 use part_cases::chip::way::other_way;
 use part_cases::draw::Draw;
-use part_cases::words::{typed_key, wait};
+use part_cases::words::{key, wait};
 use sai_chip::named;
 use sai_types::Thing;
 use std::alloc::Global;
@@ -195,7 +195,7 @@ fn find(alloc: Global, bench: &Bench, line: &str) -> Result<()> {
     match words.as_slice() {
         ["waits", name, why @ ..] => {
             let why = wait(alloc, why)?;
-            find_wait(bench, &typed_key(alloc, name)?, &why)
+            find_wait(bench, &key(alloc, name)?, &why)
         }
         ["goes", way @ ..] => find_way(alloc, bench, way),
         _ => bail!("no line of a case"),

@@ -4,7 +4,7 @@ ghost use Rattle.switch_model.specs.Marks.{written_key};
 ghost use Rattle.machine_laws.specs.Reading.{IsOnSwitch};
 
 use anyhow::{Result, bail};
-use part_cases::words::{fields, typed_key};
+use part_cases::words::{fields, key};
 use std::alloc::Global;
 use table_schema::Write;
 
@@ -16,9 +16,9 @@ pub fn read_write(alloc: Global, line: &str) -> Result<Write>
     match words.as_slice() {
         ["set", name, pairs @ ..] if !pairs.is_empty() => {
             let fields = fields(alloc, pairs)?;
-            Ok(Write::Set(typed_key(alloc, name)?, fields))
+            Ok(Write::Set(key(alloc, name)?, fields))
         }
-        ["del", name] => Ok(Write::Del(typed_key(alloc, name)?)),
+        ["del", name] => Ok(Write::Del(key(alloc, name)?)),
         _ => bail!("a write"),
     }
 }

@@ -7,7 +7,7 @@ use anyhow::{Context, Result, bail};
 use sai_types::{Caps, Kind, Rid, Weight};
 use std::alloc::Global;
 use switch_model::Wait;
-use swss_types::{Ip, Lanes, Mac, Prefix, Tagging, Text, Vrf, VrfName};
+use swss_types::{Ip, Lanes, Mac, Prefix, Tagging, Text, VrfName};
 use table_schema::{Fields, Key, has_colon, read_key};
 
 /// A number.
@@ -101,30 +101,11 @@ pub fn key(alloc: Global, word: &str) -> Result<Key>
     Ok(read_key(alloc, word.as_bytes())?)
 }
 
-/// A key of whatever row: that of a virtual router, or of a route in a named one, and else what the tables read.
-pub fn typed_key(alloc: Global, word: &str) -> Result<Key>
-    ensures { IfOk result IsOnSwitch }
-{
-    if let Some(name) = word.strip_prefix("VRF_TABLE:") {
-        return Ok(Key::Vrf(vrf_name(name)?));
-    }
-    match named_route(word) {
-        Some((name, covers)) => Ok(Key::Route(Vrf::Named(name), prefix(covers)?)),
-        None => key(alloc, word),
-    }
-}
-
-/// The router and the prefix of a route's key in a named router.
-fn named_route(word: &str) -> Option<(VrfName, &str)> {
-    let (name, covers) = word.strip_prefix("ROUTE_TABLE:")?.split_once(':')?;
-    Some((VrfName::read(name.as_bytes())?, covers))
-}
-
 /// Why a key waits.
 pub fn wait(alloc: Global, why: &[&str]) -> Result<Wait> {
     match why {
-        ["missing", name] => Ok(Wait::Missing(typed_key(alloc, name)?)),
-        ["held", name] => Ok(Wait::Held(typed_key(alloc, name)?)),
+        ["missing", name] => Ok(Wait::Missing(key(alloc, name)?)),
+        ["held", name] => Ok(Wait::Held(key(alloc, name)?)),
         ["no-room", name] => Ok(Wait::NoRoom(kind(name)?)),
         ["busy", worker] => Ok(Wait::Busy(short(worker)?)),
         _ => bail!("a reason"),

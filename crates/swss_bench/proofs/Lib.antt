@@ -1,3 +1,4 @@
+pub mod Crossing
 mod Distinct
 pub mod Readies
 pub mod RoutesBelow

@@ -29,7 +29,6 @@ why_text (why.BadImage fault) = codes "bad-image"
 why_text why.TooManyProducers = codes "too-many-producers"
 why_text why.BadJson = codes "bad-json"
 why_text why.BadWord = codes "bad-word"
-why_text why.NotYet = codes "not-yet"
 
 abbrev pub refused_text : Refused → List ℕ
 refused_text refusal = codes "script refused: line " ++ (decimal refusal.line ++ (codes ": " ++ why_text refusal.why))

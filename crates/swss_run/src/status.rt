@@ -89,6 +89,5 @@ fn why_text(why: Why) -> &'static [u8]
         Why::TooManyProducers => b"too-many-producers",
         Why::BadJson => b"bad-json",
         Why::BadWord => b"bad-word",
-        Why::NotYet => b"not-yet",
     }
 }

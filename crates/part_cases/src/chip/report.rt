@@ -1,5 +1,5 @@
 // What is reported of a chip and of rows, round by round.
-use crate::words::{fields, ip, key, number, typed_key, wait};
+use crate::words::{fields, ip, key, number, wait};
 use anyhow::{Context, Result, bail};
 use row_store::Rows;
 use sai_chip::{Replay, SimChip};
@@ -9,6 +9,7 @@ use std::mem;
 use switch_model::{Mark, MarkEvent, Wait, Waits};
 use swss_report::{RoundEnd, round_lines};
 use swss_script::Show;
+use swss_types::Vrf;
 use table_schema::{Key, PortPlan, Row, Write};
 
 /// A key that waits, why, and its applied row.
@@ -88,7 +89,7 @@ impl Reporter {
     /// Lets a key wait at the next settling or apply.
     fn put_wait(&mut self, alloc: Global, name: &str, why: &[&str]) -> Result<()> {
         let wait = wait(alloc, why)?;
-        self.waits.push((typed_key(alloc, name)?, wait, None))?;
+        self.waits.push((key(alloc, name)?, wait, None))?;
         Ok(())
     }
 
@@ -188,7 +189,7 @@ fn shows(alloc: Global, words: &[&str]) -> Result<Vec<Show>> {
             "ready" => Show::Ready,
             "calls" => Show::Calls,
             "counts" => Show::Counts,
-            "forward" => Show::Forward(ip(words.next().context("an address")?)?),
+            "forward" => Show::Forward(Vrf::Default, ip(words.next().context("an address")?)?),
             _ => bail!("a show"),
         })?;
     }

@@ -8,7 +8,7 @@ use std::process::Abort;
 use swss_script::{
     Act, Acts, Fail2, Fails, Producers, Round, RoundList, Section, Sections, Show, Shows, Writes,
 };
-use swss_types::{Bits, Family, Ip, Text};
+use swss_types::{Bits, Family, Ip, Text, Vrf};
 use table_schema::{Key, Write};
 
 /// Calls that fail.
@@ -27,7 +27,7 @@ fn each_show() -> [Show; 2] {
         family: Family::V4,
         bits: Bits::new(0x0A00_0001),
     };
-    [Show::Chip, Show::Forward(ip)]
+    [Show::Chip, Show::Forward(Vrf::Default, ip)]
 }
 
 /// Names of producers, short and long.

@@ -39,7 +39,7 @@ fn image_of(rt: &impl Abort, alloc: Global, drawn: u32) -> Vec<u8> {
         }
         left /= 2;
     }
-    append(rt, &mut text, r#"},"version":1}"#);
+    append(rt, &mut text, r#"},"version":2}"#);
     text
 }
 

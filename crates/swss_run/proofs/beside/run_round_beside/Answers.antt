@@ -1,5 +1,7 @@
+use denote.Param.Send.{sendable}
 use Rattle.std.proofs.Common.{rules, ◌≡◌, ◌-◌, ◌∙◌, length, sym, ap, subst, arith}
 use Rattle.swss_run.specs.Running.{IsWritten, ended_now}
+use Rattle.swss_run.proofs.Crossing.{chip_crosses}
 use Rattle.swss_run.proofs.OpenedRounds.{some-round}
 use Rattle.swss_run.proofs.RoundBeside.{beside-follows, beside-grown, beside-halted, beside-longer, beside-over, beside-told, beside-written}
 use Rattle.swss_run.proofs.beside.run_round_beside.Goals as goal
@@ -59,3 +61,6 @@ returns-in-Err-clause-fails g c =
 pub returns-in-Err-clause-run : goal.returns-in-Err-clause-run
 returns-in-Err-clause-run g c = λ round some.
     beside-halted (omega (arith, c.requires.workers.0)) round c.args.locked c.requires.ready.here c.args.number (g.K.Sink.holds c.args.sink.now) (g.K.Sink.faults c.args.sink.now) c.args.replay.now c.run-locked.result.locked c.run-locked.result.end c.in-Err.status (sym c.round_ended.ensures ∙ c.in-Err.is) (c.run-locked.ensures.any round some)
+
+pub run-locked-requires-send-C : goal.run-locked-requires-send-C
+run-locked-requires-send-C g c κs within = let chip = chip_crosses in search sendable depth 60
