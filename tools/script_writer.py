@@ -297,8 +297,8 @@ def producer_name(word):
 
 
 def show_words(word):
-    if word not in SHOWS and not re.fullmatch(r"forward [0-9a-fA-F.:]+", word):
-        raise argparse.ArgumentTypeError(f"{word!r} is none of {', '.join(SHOWS)}, 'forward ADDRESS'")
+    if word not in SHOWS and not re.fullmatch(r"forward (Vrf[A-Za-z0-9_-]{0,12} )?[0-9a-fA-F.:]+", word):
+        raise argparse.ArgumentTypeError(f"{word!r} is none of {', '.join(SHOWS)}, 'forward ADDRESS', 'forward ROUTER ADDRESS'")
     return word
 
 

@@ -7,7 +7,7 @@ import common
 from common import EXAMPLES, run
 
 NAMES = ("packets-during-apply", "restart-changed-route")
-KINDS = ("PORT", "VLAN", "BRIDGE_PORT", "VLAN_MEMBER", "RIF", "OWN_ADDRESS", "NEIGHBOR", "NEXT_HOP", "GROUP", "GROUP_MEMBER", "ROUTE")
+KINDS = ("PORT", "VLAN", "VIRTUAL_ROUTER", "BRIDGE_PORT", "VLAN_MEMBER", "RIF", "OWN_ADDRESS", "NEIGHBOR", "NEXT_HOP", "GROUP", "GROUP_MEMBER", "ROUTE")
 
 REPORT = """\
 settled 1 waiting 2
