@@ -1,0 +1,9 @@
+pub mod TableNames
+pub mod Chosen
+pub mod Keeping
+pub mod Writing
+pub mod Comparing
+pub mod Differences
+pub mod Unions
+pub mod Reconciling
+pub mod Finishing

@@ -1,0 +1,5 @@
+pub mod Above
+pub mod Alarms
+pub mod Counted
+pub mod Crm
+pub mod Effects

@@ -1,0 +1,6 @@
+mod Answered
+mod Listed
+mod Longer
+mod Parted
+mod Sent
+mod Shared
