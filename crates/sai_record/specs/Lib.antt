@@ -1,0 +1,9 @@
+pub mod Build
+pub mod Line
+pub mod Lines
+pub mod Meaning
+pub mod Ranges
+pub mod Reading
+pub mod Replayed
+pub mod Session
+pub mod Words
